@@ -1,11 +1,11 @@
 -- What a crew's calls do leaves it so that its riders store only to sweep, that each store is entered, that they make a
 -- crew's steps alone, and flush only what they imaged.
 use Rattle.std.proofs.Common.{◌≡◌, ℕ, zero, suc, ◌+◌, ◌≤◌, Bool, true, false, List, [], ◌∷◌, Some, None, slice_get, refl, sym, ap, ◌∙◌, subst, inl, inr, arith}
-use Rattle.std.specs.Prelude.{Result, Ok, Err, MatchResult, Option, unwrap_or, ◌⊎◌, ◌&&◌, ◌||◌, ◌==◌, All}
+use Rattle.std.specs.Prelude.{length, Result, Ok, Err, MatchResult, Option, unwrap_or, ◌⊎◌, ◌&&◌, ◌||◌, ◌==◌, All}
 use Rattle.std.specs.List.{AllByRecursion, list_any}
 use Rattle.std.proofs.lemmas.Option.{get_or_from_slice_get, slice_get_within}
 use Rattle.hl_model.specs.declared.step.Step.{Step}
-use Rattle.hl_model.specs.declared.step.Step.TheVariants.{Raise, Settle, Shift, Close, Take, Done, FlushTake, FlushDone, CleanTake, CleanDone}
+use Rattle.hl_model.specs.declared.step.Step.TheVariants.{Raise, Settle, Shift, Close, Take, Done, FlushTake, FlushDone, CleanTake}
 use Rattle.hl_model.specs.declared.snapshot.Snapshot.{Snapshot}
 use Rattle.hl_model.specs.declared.fault.Fault.{Fault}
 use Rattle.hl_model.specs.declared.fault.Fault.TheVariants.{JournalFull, NoneClosed, NoneSealed}
@@ -145,12 +145,12 @@ module _ (serves : Bool) (sizes : Sizes) where
   pub none_works : {F : Type 0} {domain : DomainState} {H : KeeperState F → KeeperState F → Type 0} (old new : RiderState) → LeavesUnderLock F domain (no_step old new) H → WorksOn serves sizes old new
   none_works old new left = call_works left (λ list. tt) (λ serving p list. refl) (none_enters old new left)
 
-  -- loads of some words
-  pub loads_work : (cell : ℕ) (words : List ℕ) (old new : RiderState) → new ≡ with_view (loaded_all cell words old.view) old → WorksOn serves sizes old new
-  loads_work cell words old new is = subst (λ r. WorksOn serves sizes old r) (sym is) (record {
-    later = later_loads cell words old;
-    sweeps = λ s. loads_sweep sizes cell words old.view old.calls s;
-    enters = λ h. (riders_stay_entered sizes).loads cell words old h;
+  -- the copy of a page
+  pub loads_work : (page : ℕ) (words : List ℕ) (old new : RiderState) → length words ≡ sizes.page_size → new ≡ with_view (loaded_all (first_cell sizes page) words old.view) old → WorksOn serves sizes old new
+  loads_work page words old new long is = subst (λ r. WorksOn serves sizes old r) (sym is) (record {
+    later = later_loads (first_cell sizes page) words old;
+    sweeps = λ s. loads_sweep sizes (first_cell sizes page) words old.view old.calls s;
+    enters = λ h. (riders_stay_entered sizes).loads page words old long h;
     makes = λ m. m;
     flushes = λ serving p. refl;
   })

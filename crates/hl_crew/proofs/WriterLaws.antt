@@ -123,7 +123,7 @@ module _ {L W : Type 0} (has : W → ℕ → List ℕ → Type 0) (serves : Bool
 module _ {W : Type 0} (has : W → ℕ → List ℕ → Type 0) (serves : Bool) (sizes : Sizes) where
   -- what a writer did to a page that it tells as written, or as failed
   written_works : (wrote : W → ℕ → List ℕ → W → Type 0) (job : PageJob) (old new : RiderState) (before after : W) → IsWritten wrote sizes job old new before after → WorksOn serves sizes old new
-  written_works wrote job old new before after is = loads_work serves sizes _ is.words old new is.loaded
+  written_works wrote job old new before after is = loads_work serves sizes job.page is.words old new is.places is.loaded
 
   unwritten_works : (failed : W → ℕ → List ℕ → W → Type 0) (failures : W → ℕ) (job : PageJob) (old new : RiderState) (before after : W) → IsNotWritten (FailsPage has failed) failures sizes job old new before after
       → WorksOn serves sizes old new × KeepsOthers has job.page before after

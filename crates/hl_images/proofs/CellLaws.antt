@@ -1,7 +1,7 @@
 -- The cell of an address.
-use Rattle.std.proofs.Common.{◌≡◌, ℕ, ◌+◌, ◌*◌, ◌/◌, ◌%◌, ◌<◌, ap, sym, ◌∙◌, arith}
+use Rattle.std.proofs.Common.{◌≡◌, ℕ, ◌+◌, ◌*◌, ◌/◌, ◌%◌, ◌<◌, ◌≤◌, ap, sym, ◌∙◌, arith}
 use Rattle.std.proofs.lemmas.Nat.{div-mul-add, mod-mul-add}
-use Rattle.std.proofs.Math.Nat.{div-add-mod}
+use Rattle.std.proofs.Math.Nat.{div-add-mod, mod-lt, mul-le-mul_right}
 use Rattle.hl_model.specs.Sizes.{Sizes}
 use Rattle.hl_keeper.specs.Passes.{cell_at}
 use Rattle.hl_keeper.specs.Pages.{first_cell}
@@ -25,3 +25,19 @@ pub cell_of_place : (sizes : Sizes) (p k : ℕ) → k < sizes.page_size → cell
 cell_of_place sizes p k within =
     let place = p * sizes.page_size + k in
     ap (λ (x : ℕ). x % sizes.frames * sizes.page_size + place % sizes.page_size) (div-mul-add p sizes.page_size k within) ∙ ap (λ (x : ℕ). p % sizes.frames * sizes.page_size + x) (mod-mul-add p sizes.page_size k within)
+
+-- a cell is one of all
+pub cell_low : (sizes : Sizes) (a : ℕ) → 0 < sizes.page_size → 0 < sizes.frames → cell_at sizes a < sizes.frames * sizes.page_size
+cell_low sizes a page_some frames_some =
+    let frame = a / sizes.page_size % sizes.frames in
+    let more : (frame + 1) * sizes.page_size ≤ sizes.frames * sizes.page_size = mul-le-mul_right sizes.page_size (omega (arith, mod-lt (a / sizes.page_size) frames_some)) in
+    let end : (frame + 1) * sizes.page_size ≡ frame * sizes.page_size + sizes.page_size = omega arith in
+    omega (arith, more, end, mod-lt a page_some)
+
+-- the cells of a page are, too
+pub page_low : (sizes : Sizes) (p : ℕ) → 0 < sizes.frames → first_cell sizes p + sizes.page_size ≤ sizes.frames * sizes.page_size
+page_low sizes p frames_some =
+    let frame = p % sizes.frames in
+    let more : (frame + 1) * sizes.page_size ≤ sizes.frames * sizes.page_size = mul-le-mul_right sizes.page_size (omega (arith, mod-lt p frames_some)) in
+    let end : (frame + 1) * sizes.page_size ≡ frame * sizes.page_size + sizes.page_size = omega arith in
+    omega (arith, more, end)

@@ -1,5 +1,5 @@
 -- The stores of riders stay writes of their calls, or 0s of their sweeps.
-use Rattle.std.proofs.Common.{◌≡◌, ◌≢◌, ℕ, zero, suc, ◌+◌, ◌<◌, ◌≤◌, true, false, List, [], ◌∷◌, ◌++◌, Some, None, refl, ap, sym, ◌∙◌, inl, inr, ⊎_elim, subst, arith}
+use Rattle.std.proofs.Common.{◌≡◌, ◌≢◌, ℕ, zero, suc, ◌+◌, ◌*◌, ◌<◌, ◌≤◌, true, false, List, [], ◌∷◌, ◌++◌, length, Some, None, refl, ap, sym, ◌∙◌, inl, inr, ⊎_elim, subst, arith}
 use Rattle.std.specs.Prelude.{Bool, if◌then◌else◌, nat_lt, ◌||◌, max}
 use Rattle.std.specs.List.{AllByRecursion as Every}
 use Rattle.std.proofs.lemmas.Bool.{cases_eq}
@@ -25,8 +25,9 @@ use Rattle.hl_keeper.proofs.TouchLaws.{touches_more, touches_rise}
 use Rattle.hl_domain.specs.Domains.{with_entry}
 use Rattle.hl_laws.proofs.BoundLaws.{tail-append}
 use Rattle.hl_laws.proofs.LawProofs.{beginnings_are_accepted}
-use Rattle.hl_images.specs.Entered.{is_touch, IsOneCall, newest_writes, IsWriteOf, AreEntered, HasZero, IsSwept, FreesSwept}
+use Rattle.hl_images.specs.Entered.{is_touch, IsOneCall, newest_writes, IsWriteOf, AreEntered, HasZero, IsSwept, FreesSwept, LoadsWithin}
 use Rattle.hl_images.specs.Kept.{RiderEnters, PassEnters, RidersStayEntered, PassesStayEntered}
+use Rattle.hl_images.proofs.CellLaws.{cell_low, page_low}
 use Rattle.hl_images.proofs.PlaceLaws.{every_place}
 use Rattle.hl_images.proofs.SealedLaws.{pending_stays_above}
 use Rattle.hl_images.proofs.WriterLaws.{newest_every, writes_both}
@@ -98,21 +99,35 @@ module _ (sizes : Sizes) where
       (λ (apart : first_cell sizes page + n ≢ d). inr (zero_at list older page n view next (omega (arith, le)) d low (omega (arith, high, apart))))
       (cases_eq (first_cell sizes page + n) d)
 
+  loads_in : (cell : ℕ) (words : List ℕ) (view : RiderView) → (0 < sizes.page_size → 0 < sizes.frames → cell + length words ≤ sizes.frames * sizes.page_size) → LoadsWithin sizes view.touches → LoadsWithin sizes (loaded_all cell words view).touches
+  unfolding loaded_all
+  loads_in cell [] view room h = h
+  loads_in cell (w ∷ words) view room h =
+      loads_in (cell + 1) words (loaded cell w view) (λ page_some frames_some. omega (arith, room page_some frames_some))
+      ((λ d v e page_some frames_some. let same : cell ≡ d = cc e in omega (arith, same, room page_some frames_some)), h)
+
+  zeros_in : (cell n : ℕ) (view : RiderView) → LoadsWithin sizes view.touches → LoadsWithin sizes (zeroed cell n view).touches
+  unfolding zeroed
+  zeros_in cell zero view h = h
+  zeros_in cell (suc n) view h = ((λ d v e page_some frames_some. absurd (cc e)), zeros_in cell n view h)
+
   pub riders_stay_entered : RidersStayEntered sizes
   riders_stay_entered = record {
-    new = λ name. record { entered = refl; frees = tt; calls = tt };
-    loads = λ cell words r h. record {
-      entered = loads [] r.calls cell words r.view h.entered;
-      frees = loads_free r.calls cell words r.view h.frees;
+    new = λ name. record { entered = refl; frees = tt; calls = tt; within = tt };
+    loads = λ page words r long h. record {
+      entered = loads [] r.calls (first_cell sizes page) words r.view h.entered;
+      frees = loads_free r.calls (first_cell sizes page) words r.view h.frees;
       calls = h.calls;
+      within = loads_in (first_cell sizes page) words r.view (λ page_some frames_some. omega (arith, long, page_low sizes page frames_some)) h.within;
     };
-    told = λ past r h. record { entered = h.entered; frees = h.frees; calls = h.calls };
+    told = λ past r h. record { entered = h.entered; frees = h.frees; calls = h.calls; within = ((λ d v e page_some frames_some. absurd (cc e)), h.within) };
     call = λ was now list s r touch free h. record {
       entered = subst (λ (l : List Step). AreEntered sizes r.view.touches r.calls l) (sym (no_write s [] touch)) h.entered;
       frees = ((λ p is. absurd (frees_none s p free is)), h.frees);
       calls = (inr ([], s, refl, tt, inl refl), h.calls);
+      within = ((λ d v e page_some frames_some. absurd (cc e)), h.within);
     };
-    refused = λ was now list r h. record { entered = h.entered; frees = ((λ p is. absurd (cc is)), h.frees); calls = (inl refl, h.calls) };
+    refused = λ was now list r h. record { entered = h.entered; frees = ((λ p is. absurd (cc is)), h.frees); calls = (inl refl, h.calls); within = ((λ d v e page_some frames_some. absurd (cc e)), h.within) };
     sweeps = λ was now list page r next h.
         let taken = with_entry was now list (CleanTake ∷ []) r in
         let none : FreesSwept sizes taken.view.touches taken.calls = ((λ p is. absurd (cc is)), h.frees) in
@@ -120,14 +135,16 @@ module _ (sizes : Sizes) where
           entered = zeros list r.calls page sizes.page_size taken.view next (omega arith) h.entered;
           frees = zeros_free taken.calls (first_cell sizes page) sizes.page_size taken.view none;
           calls = (inr ([], CleanTake, refl, tt, inl refl), h.calls);
+          within = zeros_in (first_cell sizes page) sizes.page_size taken.view ((λ d v e page_some frames_some. absurd (cc e)), h.within);
         };
     swept = λ was now list page r next d low high. zero_at list r.calls page sizes.page_size (with_entry was now list (CleanTake ∷ []) r).view next (omega arith) d low high;
     frees = λ was now list page r swept h. record {
       entered = h.entered;
       frees = ((λ p is. let same : page ≡ p = cc is in subst (λ (q : ℕ). IsSwept sizes q r.view.touches r.calls) same swept), h.frees);
       calls = (inr ([], CleanDone page, refl, tt, inl refl), h.calls);
+      within = ((λ d v e page_some frames_some. absurd (cc e)), h.within);
     };
-    ends = λ whole r h. record { waiting = []; entered = h.entered; frees = h.frees; calls = h.calls; above = tt };
+    ends = λ whole r h. record { waiting = []; entered = h.entered; frees = h.frees; calls = h.calls; above = tt; within = h.within };
   }
 
   -- a store at an address, among touches that wait
@@ -145,6 +162,7 @@ module _ (sizes : Sizes) where
     entered = inl (Write p.slot a v, newest_writes p.touches [], more_waits a v p, is_write a v p fault h, h.entered);
     frees = h.frees;
     calls = h.calls;
+    within = ((λ d v e page_some frames_some. absurd (cc e)), h.within);
     touches = (touches_more p.slot p.held p.touches (Write p.slot a v) h.touches (store_lawful p a v fault)).0;
     newest = h.newest;
     older = h.older;
@@ -158,6 +176,7 @@ module _ (sizes : Sizes) where
     entered = (Write p.slot a v, newest_writes p.touches [], more_waits a v p, is_write a v p fault h, h.entered);
     frees = h.frees;
     calls = h.calls;
+    within = ((λ d v e page_some frames_some. absurd (cc e)), h.within);
     touches = (touches_more p.slot p.held p.touches (Write p.slot a v) h.touches (store_lawful p a v fault)).0;
     newest = h.newest;
     older = h.older;
@@ -167,11 +186,11 @@ module _ (sizes : Sizes) where
 
   pass_loads : (a v : ℕ) (p : PassRecord) → PassEnters sizes p → PassEnters sizes (with_load sizes a v p)
   unfolding with_load
-  pass_loads a v p h = record { entered = h.entered; frees = h.frees; calls = h.calls; touches = h.touches; newest = h.newest; older = h.older; newest_is = h.newest_is; sees = h.sees }
+  pass_loads a v p h = record { entered = h.entered; frees = h.frees; calls = h.calls; within = ((λ d w e page_some frames_some. let same : cell_at sizes a ≡ d = cc e in omega (arith, same, cell_low sizes a page_some frames_some)), h.within); touches = h.touches; newest = h.newest; older = h.older; newest_is = h.newest_is; sees = h.sees }
 
   news : (read_only head ended : ℕ) (p : PassRecord) → PassEnters sizes p → PassEnters sizes (with_news read_only head ended p)
   unfolding with_news
-  news read_only head ended p h = record { entered = h.entered; frees = h.frees; calls = h.calls; touches = h.touches; newest = h.newest; older = h.older; newest_is = h.newest_is; sees = h.sees }
+  news read_only head ended p h = record { entered = h.entered; frees = h.frees; calls = h.calls; within = ((λ d v e page_some frames_some. absurd (cc e)), ((λ d v e page_some frames_some. absurd (cc e)), ((λ d v e page_some frames_some. absurd (cc e)), h.within))); touches = h.touches; newest = h.newest; older = h.older; newest_is = h.newest_is; sees = h.sees }
 
   looks : (read_only head : ℕ) (p : PassRecord) → PassEnters sizes p → PassEnters sizes (with_look read_only head p)
   unfolding with_look
@@ -192,6 +211,7 @@ module _ (sizes : Sizes) where
         entered = subst (λ (l : List Step). AreEntered sizes p.rider.view.touches p.rider.calls l) (sym (writes_both p.touches (look ∷ []) [])) h.entered;
         frees = h.frees;
         calls = h.calls;
+        within = ((λ d v e page_some frames_some. absurd (cc e)), ((λ d v e page_some frames_some. absurd (cc e)), h.within));
         touches = (touches_more p.slot p.held p.touches look h.touches (refl, omega arith, omega arith)).0;
         newest = h.newest;
         older = h.older;
@@ -202,6 +222,7 @@ module _ (sizes : Sizes) where
         entered = subst (λ (l : List Step). AreEntered sizes p.rider.view.touches p.rider.calls (newest_writes l [])) (sym (append-nil p.touches)) h.entered;
         frees = h.frees;
         calls = h.calls;
+        within = ((λ d v e page_some frames_some. absurd (cc e)), ((λ d v e page_some frames_some. absurd (cc e)), h.within));
         touches = subst (AreTouches p.slot p.held) (sym (append-nil p.touches)) h.touches;
         newest = h.newest;
         older = h.older;
@@ -219,6 +240,7 @@ module _ (sizes : Sizes) where
         entered = subst (λ (l : List Step). AreEntered sizes p.rider.view.touches p.rider.calls l) (sym waits) h.entered;
         frees = ((λ q is. absurd (call_frees_none p.touches s q own is)), h.frees);
         calls = (inr (p.touches, s, refl, all, inr own), h.calls);
+        within = ((λ d v e page_some frames_some. absurd (cc e)), h.within);
       }
 
   -- a call that met a list which begins with what the newest call left met no lower tail
@@ -229,12 +251,13 @@ module _ (sizes : Sizes) where
       subst (λ (l : List Step). p.held.tail ≤ tail sizes l) (sym b.1) (omega (arith, h.sees, more))
 
   -- a pass with another rider
-  with_newest : (list steps : List Step) (p : PassRecord) (r : RiderState) (older : List Entry) → AreEntered sizes r.view.touches r.calls (newest_writes p.touches []) → FreesSwept sizes r.view.touches r.calls → Every (λ (e : Entry). IsOneCall e.steps) r.calls → r.calls ≡ entry list steps ∷ older
+  with_newest : (list steps : List Step) (p : PassRecord) (r : RiderState) (older : List Entry) → AreEntered sizes r.view.touches r.calls (newest_writes p.touches []) → FreesSwept sizes r.view.touches r.calls → Every (λ (e : Entry). IsOneCall e.steps) r.calls → LoadsWithin sizes r.view.touches → r.calls ≡ entry list steps ∷ older
       → AreTouches p.slot p.held p.touches → p.held.tail ≤ tail sizes (list ++ steps) → PassEnters sizes (with_rider r p)
-  with_newest list steps p r older entered frees calls is touches sees = record {
+  with_newest list steps p r older entered frees calls within is touches sees = record {
     entered = entered;
     frees = frees;
     calls = calls;
+    within = within;
     touches = touches;
     newest = entry list steps;
     older = older;
@@ -247,7 +270,7 @@ module _ (sizes : Sizes) where
   passes_stay_entered = record {
     acquires = λ was now list t stamp slot r below h.
         let one = riders_stay_entered.call was now list (Acquire t) r refl refl h in
-        record { entered = one.entered; frees = one.frees; calls = one.calls; touches = tt; newest = entry list (Acquire t ∷ []); older = r.calls; newest_is = refl; sees = below };
+        record { entered = one.entered; frees = one.frees; calls = one.calls; within = one.within; touches = tt; newest = entry list (Acquire t ∷ []); older = r.calls; newest_is = refl; sees = below };
     stores = stores;
     changes = changes;
     loads = pass_loads;
@@ -255,23 +278,24 @@ module _ (sizes : Sizes) where
     news = news;
     goes_on = λ was now list s epoch view p own below h.
         let all = all_enter was now list s p own h in
-        record { entered = all.entered; frees = all.frees; calls = all.calls; touches = tt; newest = entry list (p.touches ++ s ∷ []); older = p.rider.calls; newest_is = refl; sees = below };
+        record { entered = all.entered; frees = all.frees; calls = all.calls; within = all.within; touches = tt; newest = entry list (p.touches ++ s ∷ []); older = p.rider.calls; newest_is = refl; sees = below };
     call = λ was now list s p touch free some ok of h.
         let waits : newest_writes p.touches [] ++ newest_writes (s ∷ []) [] ≡ newest_writes p.touches [] = ap (λ (l : List Step). newest_writes p.touches [] ++ l) (no_write s [] touch) ∙ append-nil (newest_writes p.touches []) in
         let good = beginnings_are_accepted sizes list (s ∷ []) ok in
         with_newest list (s ∷ []) p (with_entry was now list (s ∷ []) p.rider) p.rider.calls
         (subst (λ (l : List Step). AreEntered sizes p.rider.view.touches p.rider.calls l) (sym waits) h.entered)
-        ((λ q is. absurd (frees_none s q free is)), h.frees) (inr ([], s, refl, tt, inl refl), h.calls) refl h.touches (omega (arith, sees_on list p some good of h, tail-append sizes list (s ∷ []) some ok));
+        ((λ q is. absurd (frees_none s q free is)), h.frees) (inr ([], s, refl, tt, inl refl), h.calls) ((λ d v e page_some frames_some. absurd (cc e)), h.within) refl h.touches (omega (arith, sees_on list p some good of h, tail-append sizes list (s ∷ []) some ok));
     refused = λ was now list p some ok of h.
         with_newest list [] p (with_entry was now list [] p.rider) p.rider.calls
         (subst (λ (l : List Step). AreEntered sizes p.rider.view.touches p.rider.calls l) (sym (append-nil (newest_writes p.touches []))) h.entered)
-        ((λ q is. absurd (cc is)), h.frees) (inl refl, h.calls) refl h.touches (subst (λ (l : List Step). p.held.tail ≤ tail sizes l) (sym (append-nil list)) (sees_on list p some ok of h));
+        ((λ q is. absurd (cc is)), h.frees) (inl refl, h.calls) ((λ d v e page_some frames_some. absurd (cc e)), h.within) refl h.touches (subst (λ (l : List Step). p.held.tail ≤ tail sizes l) (sym (append-nil list)) (sees_on list p some ok of h));
     releases = λ was now list p h. all_enter was now list (Release p.slot) p refl h;
     abandons = λ whole p some ok view h. record {
       waiting = newest_writes p.touches [];
       entered = h.entered;
       frees = h.frees;
       calls = h.calls;
+      within = h.within;
       above = newest_every (λ (w : Step). (t a v : ℕ) → w ≡ Write t a v → safe_read_only whole ≤ a) p.touches []
           (every_place (λ (w : Step). (t a v : ℕ) → w ≡ Write t a v → safe_read_only whole ≤ a) [] p.touches
           (λ f x r is t a v same. pending_stays_above sizes whole p.slot p.held f r t a v some ok view (subst (AreTouches p.slot p.held) (is ∙ ap (λ (z : Step). f ++ z ∷ r) same) h.touches))) tt;

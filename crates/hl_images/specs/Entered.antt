@@ -1,5 +1,5 @@
 -- When each store of a rider is a write of its calls, or of those that still wait to be entered, or a 0 of a sweep.
-use Rattle.std.specs.Prelude.{ℕ, ◌≡◌, ◌<◌, ◌≤◌, ◌+◌, ◌⊎◌, Bool, true, false, List, [], ◌∷◌, ◌++◌}
+use Rattle.std.specs.Prelude.{ℕ, ◌≡◌, ◌<◌, ◌≤◌, ◌+◌, ◌*◌, ◌⊎◌, Bool, true, false, List, [], ◌∷◌, ◌++◌}
 use Rattle.std.specs.List.{AllByRecursion}
 use Rattle.hl_model.specs.declared.step.Step.{Step}
 use Rattle.hl_model.specs.declared.step.Step.TheVariants.{Look, Write, CleanDone}
@@ -90,6 +90,11 @@ FreesSwept sizes (Called met left ∷ before) (call ∷ calls) =
 FreesSwept sizes (Looked which x ∷ before) calls = FreesSwept sizes before calls
 FreesSwept sizes (Met name count ∷ before) calls = FreesSwept sizes before calls
 
+-- these touches load only cells that there are
+abbrev pub LoadsWithin : Sizes → List Touch → Type 0
+LoadsWithin sizes ts = AllByRecursion (λ t. (d v : ℕ) → t ≡ Loaded d v → 0 < sizes.page_size → 0 < sizes.frames
+    → d < sizes.frames * sizes.page_size) ts
+
 -- So it is with each store of a rider, where the one list is this: what still waits was of a pass that was abandoned, and
 -- lies above what is sealed; and a page that it freed, it swept
 pub record StoresEnter (sizes : Sizes) (whole : List Step) (r : RiderState) : Type 0 where
@@ -98,3 +103,4 @@ pub record StoresEnter (sizes : Sizes) (whole : List Step) (r : RiderState) : Ty
   pub frees : FreesSwept sizes r.view.touches r.calls
   pub calls : AllByRecursion (λ e. IsOneCall e.steps) r.calls
   pub above : AllByRecursion (λ w. (t a v : ℕ) → w ≡ Write t a v → safe_read_only whole ≤ a) waiting
+  pub within : LoadsWithin sizes r.view.touches

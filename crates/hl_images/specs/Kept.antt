@@ -1,5 +1,5 @@
 -- That the stores of riders stay writes of their calls, or 0s of their sweeps, by each call of a domain.
-use Rattle.std.specs.Prelude.{ℕ, ◌≡◌, ◌<◌, ◌≤◌, false, true, Some, None, List, [], ◌∷◌, ◌++◌}
+use Rattle.std.specs.Prelude.{ℕ, ◌≡◌, ◌<◌, ◌≤◌, false, true, Some, None, List, [], ◌∷◌, ◌++◌, length}
 use Rattle.std.specs.List.{AllByRecursion}
 use Rattle.hl_model.specs.declared.slot.Slot.{Slot}
 use Rattle.hl_model.specs.declared.step.Step.{Step}
@@ -19,13 +19,14 @@ use Rattle.hl_keeper.specs.Passes.{PassRecord, store_fault, with_store, with_cha
 use Rattle.hl_keeper.specs.Pages.{first_cell, loaded_all, zeroed}
 use Rattle.hl_keeper.specs.Touches.{AreTouches, is_call}
 use Rattle.hl_domain.specs.Domains.{with_entry, with_held}
-use Rattle.hl_images.specs.Entered.{is_touch, IsOneCall, newest_writes, AreEntered, IsSwept, FreesSwept, StoresEnter}
+use Rattle.hl_images.specs.Entered.{is_touch, IsOneCall, newest_writes, AreEntered, IsSwept, FreesSwept, LoadsWithin, StoresEnter}
 
--- the stores of a rider that has no pass
+-- the stores of a rider that has no pass; and it loads cells that there are
 pub record RiderEnters (sizes : Sizes) (r : RiderState) : Type 0 where
   pub entered : AreEntered sizes r.view.touches r.calls []
   pub frees : FreesSwept sizes r.view.touches r.calls
   pub calls : AllByRecursion (λ e. IsOneCall e.steps) r.calls
+  pub within : LoadsWithin sizes r.view.touches
 
 -- the stores of a pass's rider, where those of the pass's touches wait; the pass sees no tail above that of the list that
 -- the newest call of its rider left
@@ -33,6 +34,7 @@ pub record PassEnters (sizes : Sizes) (p : PassRecord) : Type 0 where
   pub entered : AreEntered sizes p.rider.view.touches p.rider.calls (newest_writes p.touches [])
   pub frees : FreesSwept sizes p.rider.view.touches p.rider.calls
   pub calls : AllByRecursion (λ e. IsOneCall e.steps) p.rider.calls
+  pub within : LoadsWithin sizes p.rider.view.touches
   pub touches : AreTouches p.slot p.held p.touches
   pub newest : Entry
   pub older : List Entry
@@ -42,8 +44,9 @@ pub record PassEnters (sizes : Sizes) (p : PassRecord) : Type 0 where
 -- it stays so by what a rider does, and at the end of all
 pub record RidersStayEntered (sizes : Sizes) : Type 0 where
   pub new : (name : ℕ) → RiderEnters sizes (new_rider name)
-  pub loads : (cell : ℕ) (words : List ℕ) (r : RiderState) → RiderEnters sizes r
-      → RiderEnters sizes (with_view (loaded_all cell words r.view) r)
+  -- the copy of a page
+  pub loads : (page : ℕ) (words : List ℕ) (r : RiderState) → length words ≡ sizes.page_size → RiderEnters sizes r
+      → RiderEnters sizes (with_view (loaded_all (first_cell sizes page) words r.view) r)
   pub told : (past : Known) (r : RiderState) → RiderEnters sizes r
       → RiderEnters sizes (with_view (told past r.view) r)
   -- a call that makes one step, which frees no page

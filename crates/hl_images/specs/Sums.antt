@@ -1,5 +1,5 @@
 -- That an image holds the sum of all that was added.
-use Rattle.std.specs.Prelude.{ℕ, ◌≡◌, ◌+◌, ◌*◌, ◌%◌, ◌^◌, ◌<◌, ◌⊎◌, List, length, Some, None, slice_get}
+use Rattle.std.specs.Prelude.{ℕ, ◌≡◌, ◌+◌, ◌*◌, ◌%◌, ◌^◌, ◌<◌, ◌⊎◌, List, length, Some, slice_get}
 use Rattle.std.specs.List.{AllByRecursion, sum}
 use Rattle.hl_model.specs.declared.step.Step.TheVariants.{Write}
 use Rattle.hl_model.specs.Sizes.{Sizes}

@@ -76,7 +76,7 @@ put_last : (a v : ℕ) (t : Touch) (l : List Touch) → IsPut t a v → last_sto
 put_last a v t l (inl e) = ap (λ (u : Touch). last_store a (u ∷ l)) e ∙ ap (λ (b : Bool). if b then Some v else last_store a l) (eq-eqb a a refl)
 put_last a v t l (inr c) = ap (λ (u : Touch). last_store a (u ∷ l)) c.1 ∙ ap (λ (b : Bool). if b then Some v else last_store a l) (eq-eqb a a refl)
 
-put_is : (a : ℕ) (t : Touch) → Puts a t → (v : ℕ) × IsPut t a v
+pub put_is : (a : ℕ) (t : Touch) → Puts a t → (v : ℕ) × IsPut t a v
 put_is a (Stored d v) p = by (d == a) refl (p.last [])
   where
     by : (b : Bool) → (d == a) ≡ b → (if b then Some v else None) ≡ Some p.value → (w : ℕ) × IsPut (Stored d v) a w

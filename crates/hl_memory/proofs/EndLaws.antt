@@ -1,8 +1,8 @@
 -- What words and images hold at the end is in that memory.
-use Rattle.std.proofs.Common.{◌≡◌, ℕ, ◌+◌, ◌*◌, ◌/◌, ◌%◌, ◌<◌, ◌≤◌, true, List, [], ◌∷◌, ◌++◌, length, map, refl, ap, sym, ◌∙◌, ⊎_elim, subst, arith, append_assoc, length-append}
+use Rattle.std.proofs.Common.{◌≡◌, ℕ, ◌+◌, ◌*◌, ◌/◌, ◌<◌, ◌≤◌, true, List, [], ◌∷◌, ◌++◌, length, map, Some, slice_get, refl, ap, sym, ◌∙◌, ⊎_elim, subst, arith, append_assoc, length-append}
 use Rattle.std.proofs.lemmas.Bool.{both_ways, cases_lt}
 use Rattle.std.proofs.lemmas.List.{append-nil}
-use Rattle.std.proofs.Math.Nat.{div-add-mod, div-mul-le_self, mod-lt, mul-le-mul_right}
+use Rattle.std.proofs.Math.Nat.{div-add-mod, div-mul-le_self, mul-le-mul_right}
 use Rattle.hl_model.specs.declared.step.Step.{Step}
 use Rattle.hl_model.specs.declared.step.Step.TheVariants.{FlushTake, FlushDone}
 use Rattle.hl_model.specs.declared.view.Six.{Six}
@@ -22,37 +22,45 @@ use Rattle.hl_words.specs.Rule.{TouchBy, by_rider, held, touches_of}
 use Rattle.hl_words.specs.Past.{HasCalls, HasNoCalls}
 use Rattle.hl_words.specs.States.{RiderState, AreTied}
 use Rattle.hl_words.proofs.Cut.{every_at}
+use Rattle.hl_keeper.specs.Endings.{EndingState}
 use Rattle.hl_keeper.specs.Passes.{cell_at}
 use Rattle.hl_keeper.specs.Pages.{first_cell}
+use Rattle.hl_domain.specs.Domains.{IsEnding}
 use Rattle.hl_images.specs.Entered.{IsOneCall}
-use Rattle.hl_images.proofs.CellLaws.{cell_of_place}
+use Rattle.hl_images.specs.Images.{IsImaged}
+use Rattle.hl_images.proofs.CellLaws.{cell_low, cell_of_place}
 use Rattle.hl_images.proofs.PlaceLaws.{every_both, begun, shorter, low_last, at_later, not_yet}
 use Rattle.hl_images.proofs.TakenLaws.{sealed}
 use Rattle.hl_images.proofs.WordLaws.{calls_at, whose_view, within}
-use Rattle.hl_memory.specs.Acts.{in_cells}
+use Rattle.hl_memory.specs.Acts.{in_cells, IsHistory}
 use Rattle.hl_memory.specs.Images.{ImagesAreMemory}
 use Rattle.hl_memory.specs.Memory.{HasNoneLeft, WordsAreMemory}
 use Rattle.hl_memory.proofs.ActLaws.{call_at}
-use Rattle.hl_memory.proofs.LoadLaws.{cells_are_memory}
+use Rattle.hl_memory.proofs.LoadLaws.{OpenThere, open_cell}
 use Rattle.hl_memory.proofs.OpenLaws.{none_at_end}
 
--- a cell is one of all
-cell_low : (sizes : Sizes) (a : ℕ) → 0 < sizes.page_size → 0 < sizes.frames → cell_at sizes a < sizes.frames * sizes.page_size
-cell_low sizes a page_some frames_some =
-    let frame = a / sizes.page_size % sizes.frames in
-    let more : (frame + 1) * sizes.page_size ≤ sizes.frames * sizes.page_size = mul-le-mul_right sizes.page_size (omega (arith, mod-lt (a / sizes.page_size) frames_some)) in
-    let end : (frame + 1) * sizes.page_size ≡ frame * sizes.page_size + sizes.page_size = omega arith in
-    omega (arith, more, end, mod-lt a page_some)
+-- an address that isn't closed at the end is open there
+pub open_at_end : (F : Type 0) (sizes : Sizes) (riders : List RiderState) (ending : EndingState F) (ends : IsEnding sizes riders ending) (history : List TouchBy) → IsHistory sizes (ends.steps_cut ++ ending.journal) riders ends.ruled.rule.order.0 history → (a : ℕ) → a < tail sizes (ends.steps_cut ++ ending.journal) → closed (ends.steps_cut ++ ending.journal) ≤ a
+    → OpenThere sizes (ends.steps_cut ++ ending.journal) (map (λ (q : RiderState). q.view) riders) a history
+open_at_end F sizes riders ending ends history its a below unclosed =
+    let whole = ends.steps_cut ++ ending.journal in
+    let all : Begins whole whole = ([], sym (append-nil whole)) in
+    record {
+      list = whole;
+      later = whole;
+      begins = all;
+      ends = all;
+      below = below;
+      unclosed = unclosed;
+      grown = λ j met left q later past at is grew few. (later, ap (touches_of j) its.cells ∙ sym (ends.ruled.rule.order.1.each j q at) ∙ is);
+      none_left = none_at_end F sizes riders ending ends (in_cells sizes history);
+    }
 
 pub words_are_memory : (F : Type 0) → WordsAreMemory F
-words_are_memory F sizes riders ending ends page_some frames_some history its a below open_there =
-    let whole = ends.steps_cut ++ ending.journal in
-    let order = ends.ruled.rule.order in
-    let all : Begins whole whole = ([], sym (append-nil whole)) in
+words_are_memory F sizes riders ending ends page_some frames_some history its a below unclosed =
     let less : cell_at sizes a < ending.words.cells = omega (arith, cell_low sizes a page_some frames_some, ends.cells_are) in
-    order.1.last (cell_at sizes a) less ∙ ap (held (cell_at sizes a)) (sym its.cells)
-    ∙ cells_are_memory F sizes riders ending ends page_some frames_some history [] history its refl a whole whole all all below open_there
-    (λ j met left q later past at is grew few. (later, ap (touches_of j) its.cells ∙ sym (order.1.each j q at) ∙ is)) (none_at_end F sizes riders ending ends (in_cells sizes history))
+    ends.ruled.rule.order.1.last (cell_at sizes a) less ∙ ap (held (cell_at sizes a)) (sym its.cells)
+    ∙ open_cell F sizes riders ending ends page_some frames_some history [] history its refl a (open_at_end F sizes riders ending ends history its a below unclosed)
 
 -- acts cut where their touches are
 cells_cut : (sizes : Sizes) (xs ys history : List TouchBy) → in_cells sizes history ≡ xs ++ ys → (front : List TouchBy) × (back : List TouchBy) × (history ≡ front ++ back) × (in_cells sizes back ≡ ys)
@@ -76,8 +84,19 @@ not_closed sizes A p page_some ok unflushed =
     omega (arith, more, swap, div-add-mod (closed A) sizes.page_size, closed-whole sizes A ok))
     (cases_lt p (closed A / sizes.page_size))
 
-pub images_are_memory : (F : Type 0) → ImagesAreMemory F
-images_are_memory F sizes riders ending page k v image i page_some frames_some history its there_is =
+-- Where a word of an image was loaded: its address is open there
+pub record IsLoadedAt {F : Type 0} (sizes : Sizes) (riders : List RiderState) (ending : EndingState F) (page k v : ℕ) (image : List ℕ) (i : IsImaged sizes riders ending page image) (history : List TouchBy) : Type 0 where
+  pub newer : List TouchBy
+  pub before : List TouchBy
+  pub parts : history ≡ newer ++ before
+  pub finds : v ≡ held (cell_at sizes (page * sizes.page_size + k)) (in_cells sizes before)
+  pub calls : HasCalls (map (λ (q : RiderState). q.view) riders) (length i.list + 1) (in_cells sizes before)
+  pub no_calls : HasNoCalls (map (λ (q : RiderState). q.view) riders) (length i.later) (in_cells sizes before)
+  pub is_open : OpenThere sizes (i.ends.steps_cut ++ ending.journal) (map (λ (q : RiderState). q.view) riders) (page * sizes.page_size + k) before
+
+pub loaded_at : (F : Type 0) (sizes : Sizes) (riders : List RiderState) (ending : EndingState F) (page k v : ℕ) (image : List ℕ) (i : IsImaged sizes riders ending page image) → 0 < sizes.page_size → 0 < sizes.frames → (history : List TouchBy)
+    → IsHistory sizes (i.ends.steps_cut ++ ending.journal) riders i.ends.ruled.rule.order.0 history → slice_get image k ≡ Some v → IsLoadedAt sizes riders ending page k v image i history
+loaded_at F sizes riders ending page k v image i page_some frames_some history its there_is =
     let whole = i.ends.steps_cut ++ ending.journal in
     let views = map (λ (q : RiderState). q.view) riders in
     let inside : k < sizes.page_size = omega (arith, within image k v there_is, i.places) in
@@ -115,6 +134,26 @@ images_are_memory F sizes riders ending page k v image i page_some frames_some h
     let short = low_last sizes whole page_some frames_some accepted i.later (FlushDone page true) refl refl i.done c.0 c.3.0 c.3.1 ge in
     absurd (omega (arith, short, more, c.2, length-append i.later (FlushDone page true ∷ []))))
     (cases_lt (length i.later) (length c.0.before))) in
-    let found = cells_are_memory F sizes riders ending i.ends page_some frames_some history s.0 s.1 its s.2 a i.list later2 bA i.done below open_there
-    (λ j met left q newer past at is grew few. calls j met left q newer past at is (omega (arith, few))) none in
-    (s.0, s.1, s.2, m.1.finds ∙ ap (held cell) (sym s.3) ∙ ap (λ (d : ℕ). held d (in_cells sizes s.1)) (sym (cell_of_place sizes page k inside)) ∙ found, calls, no_calls)
+    record {
+      newer = s.0;
+      before = s.1;
+      parts = s.2;
+      finds = m.1.finds ∙ ap (held cell) (sym s.3) ∙ ap (λ (d : ℕ). held d (in_cells sizes s.1)) (sym (cell_of_place sizes page k inside));
+      calls = calls;
+      no_calls = no_calls;
+      is_open = record {
+        list = i.list;
+        later = later2;
+        begins = bA;
+        ends = i.done;
+        below = below;
+        unclosed = open_there;
+        grown = λ j met left q newer past at is grew few. calls j met left q newer past at is (omega (arith, few));
+        none_left = none;
+      };
+    }
+
+pub images_are_memory : (F : Type 0) → ImagesAreMemory F
+images_are_memory F sizes riders ending page k v image i page_some frames_some history its there_is =
+    let l = loaded_at F sizes riders ending page k v image i page_some frames_some history its there_is in
+    (l.newer, l.before, l.parts, l.finds ∙ open_cell F sizes riders ending i.ends page_some frames_some history l.newer l.before its l.parts (page * sizes.page_size + k) l.is_open, l.calls, l.no_calls)

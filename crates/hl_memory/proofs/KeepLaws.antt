@@ -31,7 +31,7 @@ use Rattle.hl_domain.specs.Domains.{with_entry}
 use Rattle.hl_laws.proofs.BoundLaws.{closed-le-head, views_are_bounded}
 use Rattle.hl_laws.proofs.NoFaultLaws.{later_fault, or_fault-none}
 use Rattle.hl_laws.proofs.PageFacts.{head-le-flushed, flushed-le-safe_read_only}
-use Rattle.hl_images.specs.Entered.{newest_writes, AreEntered}
+use Rattle.hl_images.specs.Entered.{newest_writes, AreEntered, LoadsWithin}
 use Rattle.hl_images.specs.Kept.{PassEnters}
 use Rattle.hl_images.proofs.CellLaws.{cell_of_place}
 use Rattle.hl_images.proofs.KeptLaws.{no_write, call_is, are_touches, riders_stay_entered, passes_stay_entered}
@@ -40,10 +40,10 @@ use Rattle.hl_images.proofs.SealedLaws.{pending_stays_above}
 use Rattle.hl_images.proofs.WriterLaws.{newest_every, writes_both}
 use Rattle.hl_memory.specs.Acts.{in_cell, IsWriteAt, AreActs, AreActsOf}
 use Rattle.hl_memory.specs.Memory.{IsOpen}
-use Rattle.hl_memory.specs.Keeping.{call_act, PassActs, ActsAreKept, LoadsWithin, ActsStand, CallsMeetView}
+use Rattle.hl_memory.specs.Keeping.{call_act, PassActs, ActsAreKept, ActsStand, CallsMeetView}
 
 -- a load without a fault is at an address that the view has
-load_lawful : (p : PassRecord) (a : ℕ) → load_fault p a ≡ None → ((seen p).head ≤ a) × (a < (seen p).tail)
+pub load_lawful : (p : PassRecord) (a : ℕ) → load_fault p a ≡ None → ((seen p).head ≤ a) × (a < (seen p).tail)
 unfolding load_fault
 load_lawful p a h =
     let outer = later_fault (ltb a (seen p).head) (Evicted (seen p).head) (beyond_fault (seen p) a) h in
@@ -52,7 +52,7 @@ load_lawful p a h =
 
 module _ (sizes : Sizes) where
   -- what a slot that is protected saw isn't closed
-  pass_low : (list : List Step) (p : PassRecord) → 0 < sizes.page_size → IsAccepted sizes list → slot_view sizes p.slot list ≡ Some p.held → (closed list ≤ p.held.head) × (closed list ≤ p.held.read_only)
+  pub pass_low : (list : List Step) (p : PassRecord) → 0 < sizes.page_size → IsAccepted sizes list → slot_view sizes p.slot list ≡ Some p.held → (closed list ≤ p.held.head) × (closed list ≤ p.held.read_only)
   pass_low list p some ok is =
       let v = viewed sizes p.slot list p.held is in
       let bounds = views_are_bounded sizes list p.slot ok v.0 in
@@ -179,6 +179,12 @@ module _ (sizes : Sizes) where
       entered = h.entered;
       opens = h.opens;
     };
+    rests = λ was now list r acts h. record {
+      enters = (riders_stay_entered sizes).refused was now list r h.enters;
+      touches = ap (λ (l : List Touch). call_act was now list [] ∷ l) h.touches;
+      entered = h.entered;
+      opens = λ low. inl (h.opens low);
+    };
     acquires = λ was now list t stamp slot r acts below h. record {
       enters = (passes_stay_entered sizes).acquires was now list t stamp slot r below h.enters;
       touches = ap (λ (l : List Touch). call_act was now list (Acquire t ∷ []) ∷ l) h.touches;
@@ -194,7 +200,7 @@ module _ (sizes : Sizes) where
     safe_looks = λ x p acts h.
         let e = h.enters in
         record {
-          enters = record { entered = e.entered; frees = e.frees; calls = e.calls; touches = e.touches; newest = e.newest; older = e.older; newest_is = e.newest_is; sees = e.sees };
+          enters = record { entered = e.entered; frees = e.frees; calls = e.calls; within = ((λ d v same page_some frames_some. absurd (cc same)), e.within); touches = e.touches; newest = e.newest; older = e.older; newest_is = e.newest_is; sees = e.sees };
           touches = ap (λ (l : List Touch). Looked SafeReadOnly x ∷ l) h.touches;
           entered = h.entered;
           opens = h.opens;
@@ -254,10 +260,10 @@ cell_same sizes d page_some frames_some less =
     ap (λ (x : ℕ). x * sizes.page_size + d % sizes.page_size) small ∙ omega (arith, div-add-mod d sizes.page_size, swap)
 
 module _ (sizes : Sizes) (page_some : 0 < sizes.page_size) (frames_some : 0 < sizes.frames) where
-  abbrev Acts : List Touch → List Entry → List Step → Type 0
+  abbrev pub Acts : List Touch → List Entry → List Step → Type 0
   Acts ts calls waiting = (acts : List Touch) × (map (in_cell sizes) acts ≡ ts) × AreActs sizes acts calls waiting
 
-  acts_from : (ts : List Touch) (calls : List Entry) (waiting : List Step) → AreEntered sizes ts calls waiting → LoadsWithin sizes ts → Acts ts calls waiting
+  pub acts_from : (ts : List Touch) (calls : List Entry) (waiting : List Step) → AreEntered sizes ts calls waiting → LoadsWithin sizes ts → Acts ts calls waiting
   acts_from [] calls waiting h all = ([], refl, h)
   acts_from (Stored d v ∷ before) calls waiting (inl w) all =
       let r = acts_from before calls w.1 w.4 all.1 in
@@ -278,7 +284,7 @@ module _ (sizes : Sizes) (page_some : 0 < sizes.page_size) (frames_some : 0 < si
       )
   acts_from (Loaded d v ∷ before) calls waiting h all =
       let r = acts_from before calls waiting h all.1 in
-      (Loaded d v ∷ r.0, ap (λ (z : ℕ). Loaded z v ∷ map (in_cell sizes) r.0) (cell_same sizes d page_some frames_some (all.0 d v refl)) ∙ ap (λ (l : List Touch). Loaded d v ∷ l) r.1, r.2)
+      (Loaded d v ∷ r.0, ap (λ (z : ℕ). Loaded z v ∷ map (in_cell sizes) r.0) (cell_same sizes d page_some frames_some (all.0 d v refl page_some frames_some)) ∙ ap (λ (l : List Touch). Loaded d v ∷ l) r.1, r.2)
   acts_from (Changed d f v ∷ before) calls waiting w all =
       let r = acts_from before calls w.1 w.4 all.1 in
       let o = w.3 in
@@ -295,8 +301,8 @@ module _ (sizes : Sizes) (page_some : 0 < sizes.page_size) (frames_some : 0 < si
       (Met m x ∷ r.0, ap (λ (l : List Touch). Met m x ∷ l) r.1, r.2)
 
 pub acts_stand : ActsStand
-acts_stand sizes whole r page_some frames_some h within =
-    let a = acts_from sizes page_some frames_some r.view.touches r.calls h.waiting h.entered within in
+acts_stand sizes whole r page_some frames_some h =
+    let a = acts_from sizes page_some frames_some r.view.touches r.calls h.waiting h.entered h.within in
     (a.0, record { waiting = h.waiting; touches = a.1; entered = a.2; frees = h.frees; calls = h.calls; above = h.above })
 
 -- a test that found no stranger passed

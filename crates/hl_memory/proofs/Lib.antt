@@ -13,3 +13,6 @@ pub mod WrittenLaws
 pub mod WordLaws
 pub mod ImageLaws
 pub mod SumLaws
+pub mod TraceLaws
+pub mod JoinLaws
+pub mod OneLaws

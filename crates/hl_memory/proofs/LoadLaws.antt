@@ -1,25 +1,33 @@
 -- What loads find, between two calls of their rider.
-use Rattle.std.proofs.Common.{◌≡◌, ℕ, ◌⊎◌, List, [], ◌∷◌, ◌++◌, map, ap, sym, ◌∙◌, ⊎_elim, subst, arith, append_assoc}
+use Rattle.std.proofs.Common.{◌≡◌, ℕ, ◌<◌, ◌≤◌, ◌⊎◌, List, [], ◌∷◌, ◌++◌, length, map, ap, sym, ◌∙◌, ⊎_elim, subst, arith, append_assoc}
 use Rattle.std.specs.List.{AllByRecursion as Every}
+use Rattle.hl_model.specs.declared.step.Step.{Step}
 use Rattle.hl_model.specs.declared.view.View.{View}
+use Rattle.hl_model.specs.Offsets.{tail}
+use Rattle.hl_model.specs.Settled.{closed}
 use Rattle.hl_model.specs.Sizes.{Sizes}
 use Rattle.hl_laws.proofs.BoundLaws.{views_are_bounded}
 use Rattle.hl_laws.proofs.WordLaws.{seen_tail-le}
 use Rattle.hl_pass.proofs.LookLaws.{viewed}
+use Rattle.hl_history.specs.declared.view.Entry.{Entry}
+use Rattle.hl_history.specs.Lists.{Begins, left_by}
 use Rattle.hl_words.specs.declared.view.Extent.{Extent}
 use Rattle.hl_words.specs.declared.view.RiderView.{RiderView}
 use Rattle.hl_words.specs.declared.view.Touch.{Touch}
 use Rattle.hl_words.specs.declared.view.Touch.TheVariants.{Loaded, Called}
-use Rattle.hl_words.specs.Rule.{TouchBy, by_rider, RisesTo, IsSerial, touches_of, HasOneOrder}
+use Rattle.hl_words.specs.Rule.{TouchBy, by_rider, held, RisesTo, IsSerial, touches_of, HasOneOrder}
 use Rattle.hl_words.proofs.CallOrder.{IsUpTo, met_all}
 use Rattle.hl_words.proofs.Cut.{every_back}
 use Rattle.hl_words.proofs.Orders.{own_more}
 use Rattle.hl_words.proofs.PastProofs.{compared, cut_at, has_more, joined, serial_end, touches_both}
-use Rattle.hl_words.specs.States.{RiderState}
-use Rattle.hl_memory.specs.Acts.{in_cell, in_cells}
+use Rattle.hl_words.specs.States.{RiderState, AreTied}
+use Rattle.hl_keeper.specs.Endings.{EndingState}
+use Rattle.hl_keeper.specs.Passes.{cell_at}
+use Rattle.hl_domain.specs.Domains.{IsEnding}
+use Rattle.hl_memory.specs.Acts.{in_cell, in_cells, IsZeroAt, IsHistory}
 use Rattle.hl_memory.specs.Memory.{HasGrown, HasNoneLeft, CellsAreMemory, LoadsFindMemory, SeenIsOpen}
 use Rattle.hl_memory.proofs.ActLaws.{cells_both}
-use Rattle.hl_memory.proofs.MemoryLaws.{cell_is_memory}
+use Rattle.hl_memory.proofs.MemoryLaws.{cell_is_memory, none_swept}
 
 pub seen_is_open : SeenIsOpen
 seen_is_open sizes A later t a first last some ok was is low high =
@@ -30,6 +38,28 @@ seen_is_open sizes A later t a first last some ok was is low high =
 pub cells_are_memory : (F : Type 0) → CellsAreMemory F
 cells_are_memory F sizes riders ending ends page_some frames_some history newer before its parts a A later bA bl below open_there grown none_left =
     cell_is_memory sizes _ page_some frames_some ends.accepted riders ends.one_list ends.tied _ _ ends.ruled.rule.order history newer before its parts a A later bA bl below open_there grown none_left
+
+-- A place of a history, of which these touches stand before: they have all that made a list in whose log the address is, and
+-- none of what was done once the list was longer than another in which the address isn't closed
+pub record OpenThere (sizes : Sizes) (whole : List Step) (views : List RiderView) (a : ℕ) (before : List TouchBy) : Type 0 where
+  pub list : List Step
+  pub later : List Step
+  pub begins : Begins list whole
+  pub ends : Begins later whole
+  pub below : a < tail sizes list
+  pub unclosed : closed later ≤ a
+  pub grown : HasGrown views (length list) (in_cells sizes before)
+  pub none_left : HasNoneLeft views (length later) (in_cells sizes before)
+
+module _ (F : Type 0) (sizes : Sizes) (riders : List RiderState) (ending : EndingState F) (ends : IsEnding sizes riders ending) (page_some : 0 < sizes.page_size) (frames_some : 0 < sizes.frames) (history newer before : List TouchBy)
+    (its : IsHistory sizes (ends.steps_cut ++ ending.journal) riders ends.ruled.rule.order.0 history) (parts : history ≡ newer ++ before) (a : ℕ) (o : OpenThere sizes (ends.steps_cut ++ ending.journal) (map (λ (r : RiderState). r.view) riders) a before) where
+  -- there the address's cell holds what that memory has
+  pub open_cell : held (cell_at sizes a) (in_cells sizes before) ≡ held a before
+  open_cell = cell_is_memory sizes _ page_some frames_some ends.accepted riders ends.one_list ends.tied _ _ ends.ruled.rule.order history newer before its parts a o.list o.later o.begins o.ends o.below o.unclosed o.grown o.none_left
+
+  -- and no 0 of a sweep of its page stands before
+  pub open_unswept : (front : List TouchBy) (i : ℕ) (act : Touch) (base : List TouchBy) (v : ℕ) (calls : List Entry) → before ≡ front ++ by_rider i act ∷ base → AreTied (touches_of i base) calls → Every (λ (e : Entry). Begins (left_by e) (ends.steps_cut ++ ending.journal)) calls → IsZeroAt sizes a v calls → ⊥
+  open_unswept = none_swept sizes _ page_some frames_some ends.accepted riders ends.one_list ends.tied _ _ ends.ruled.rule.order history newer before its parts a o.list o.later o.begins o.ends o.below o.unclosed o.grown o.none_left
 
 module _ (cells : ℕ) (words : List ℕ) (riders : List RiderView) (h : HasOneOrder cells words riders) where
   -- where a call stands, all stands that riders did before calls that entered a step and left no more

@@ -124,6 +124,15 @@ module _ (sizes : Sizes) (whole : List Step) (page_some : 0 < sizes.page_size) (
       let only = none_left i met left x.r.view xs (map (in_cell sizes) rest) (view_at riders i x.r x.at) (acts_of i x.r x.at (x.xs ++ act ∷ front) (Called met left ∷ rest) split) less in
       omega (arith, x.long, ap length is, length-append front (Called met left ∷ rest), ap length only.1, length-append only.0 (touches_of i (in_cells sizes b)), acts_long sizes rest)
 
+  -- so no 0 of a sweep of the address's page is there
+  pub none_swept : (front : List TouchBy) (i : ℕ) (act : Touch) (base : List TouchBy) (v : ℕ) (calls : List Entry) → b ≡ front ++ by_rider i act ∷ base → AreTied (touches_of i base) calls → Every (λ (e : Entry). Begins (left_by e) whole) calls → IsZeroAt sizes a v calls → ⊥
+  none_swept front i act base v calls is tied holds z =
+      let list = z.1 in
+      let e = entry list (CleanTake ∷ []) in
+      let n = next_call (touches_of i base) e z.2 (subst (AreTied (touches_of i base)) z.3 tied) in
+      let be : Begins (list ++ CleanTake ∷ []) whole = (subst (Every (λ (e : Entry). Begins (left_by e) whole)) z.3 holds).0 in
+      not_here i act base (place front i act base is) n.0 n.1 n.2 n.3 n.4 (omega (arith, sweep_later sizes whole page_some frames_some accepted a later bl open_there list p be z.4 (omega arith), n.5))
+
   -- A call above a place in the order, which met a list in which the page isn't freed
   record Above (q : ℕ) (base : List TouchBy) : Type 0 where
     front : List TouchBy
@@ -153,11 +162,8 @@ module _ (sizes : Sizes) (whole : List Step) (page_some : 0 < sizes.page_size) (
 
           kinds : ((w : Step) × (older : List Step) × (x.found.waiting ≡ w ∷ older) × IsWriteAt sizes a y.value x.found.calls w) ⊎ IsZeroAt sizes a y.value x.found.calls → ⊥
           kinds (inr z) =
-              let list = z.1 in
-              let e = entry list (CleanTake ∷ []) in
-              let n = next_call (touches_of y.rider y.base) e z.2 (subst (AreTied (touches_of y.rider y.base)) z.3 tied) in
-              let be : Begins (list ++ CleanTake ∷ []) whole = (subst (Every Own) z.3 x.found.holds).0.0 in
-              not_here y.rider y.act y.base x n.0 n.1 n.2 n.3 n.4 (omega (arith, sweep_later sizes whole page_some frames_some accepted a later bl open_there list p be z.4 (omega arith), n.5))
+              none_swept (front ++ y.front) y.rider y.act y.base y.value x.found.calls (is ∙ ap (λ (l : List TouchBy). front ++ l) y.whole ∙ sym (append_assoc front y.front (by_rider y.rider y.act ∷ y.base))) tied
+              (every_weaker Own (λ (e : Entry). Begins (left_by e) whole) x.found.calls (λ e o. o.0) x.found.holds) z
           kinds (inl w) =
               let d = w.3 in
               let e = d.2 in

@@ -33,11 +33,11 @@ use Rattle.hl_memory.specs.Acts.{in_cell, in_cells, AreActsOf, IsHistory}
 use Rattle.hl_memory.specs.Memory.{HasGrown, HasNoneLeft, IsOpen, AreOpen, FindsMemory, FindMemory, ChangesFindMemory, OpenFindMemory, HistoriesStand, OneMemory}
 use Rattle.hl_memory.proofs.ActLaws.{cells_both, call_at}
 use Rattle.hl_memory.proofs.FindLaws.{IsEntering, Waits, Calls, find_at, ties, all_calls}
-use Rattle.hl_memory.proofs.LoadLaws.{cells_are_memory, grown_here, none_here}
+use Rattle.hl_memory.proofs.LoadLaws.{OpenThere, open_cell, grown_here, none_here}
 
 -- A load or a change among the acts of a rider, with what stands before it: its address is open. Either a call stands
 -- behind it that met a list in which so much is closed, or none does
-record OpenAt (sizes : Sizes) (Q : Entry → Type 0) (end : ℕ) (xs ys : List Touch) (a : ℕ) : Type 0 where
+pub record OpenAt (sizes : Sizes) (Q : Entry → Type 0) (end : ℕ) (xs ys : List Touch) (a : ℕ) : Type 0 where
   calls : List Entry
   low : ℕ
   is_open : IsOpen sizes a calls low
@@ -107,28 +107,48 @@ module _ (F : Type 0) (sizes : Sizes) (riders : List RiderState) (ending : Endin
   tied_at : (i : ℕ) (r : RiderState) → slice_get riders i ≡ Some r → AreTied r.view.touches r.calls
   tied_at i r at = every_at (λ (z : RiderState). AreTied z.view.touches z.calls) riders ends.tied i r at
 
-  -- where the address of a rider's act is open, its cell holds what that memory has
-  cell_open : (i : ℕ) (newer before : List TouchBy) (t : Touch) (a : ℕ) → history ≡ newer ++ by_rider i t ∷ before → OpenAt sizes (Calls (ends.steps_cut ++ ending.journal)) (closed (ends.steps_cut ++ ending.journal)) (touches_of i newer) (touches_of i before) a
-      → held (cell_at sizes a) (in_cells sizes before) ≡ held a before
-  cell_open i newer before t a parts o =
+  -- where the address of a rider's act is open, it is so at the act's place
+  pub open_there : (i : ℕ) (newer before : List TouchBy) (t : Touch) (a : ℕ) → history ≡ newer ++ by_rider i t ∷ before → OpenAt sizes (Calls (ends.steps_cut ++ ending.journal)) (closed (ends.steps_cut ++ ending.journal)) (touches_of i newer) (touches_of i before) a
+      → OpenThere sizes (ends.steps_cut ++ ending.journal) (map (λ (q : RiderState). q.view) riders) a before
+  open_there i newer before t a parts o =
       let views = map (λ (q : RiderState). q.view) riders in
       let order = ends.ruled.rule.order in
       let ys = touches_of i before in
       let e = o.is_open.0 in
       let n = next_call ys e o.is_open.1 (subst (AreTied ys) o.is_open.2 o.tied) in
       let bA : Begins (left_by e) whole = (subst (Every (Calls whole)) o.is_open.2 o.holds).0.0 in
-      let split : history ≡ (newer ++ by_rider i t ∷ []) ++ before = parts ∙ sym (append_assoc newer (by_rider i t ∷ []) before) in
       let grown = subst (λ (m : ℕ). HasGrown views m (in_cells sizes before)) n.5 (grown_here sizes _ _ views order history newer before its.cells i t parts n.1 n.2 n.0 n.3 n.4) in
       ⊎_elim
       (λ (at_end : o.low ≡ closed whole).
-      cells_are_memory F sizes riders ending ends page_some frames_some history (newer ++ by_rider i t ∷ []) before its split a (left_by e) whole bA ([], sym (append-nil whole)) o.is_open.3 (omega (arith, at_end, o.is_open.4)) grown
-      (none_at_end F sizes riders ending ends (in_cells sizes before)))
+      record {
+        list = left_by e;
+        later = whole;
+        begins = bA;
+        ends = ([], sym (append-nil whole));
+        below = o.is_open.3;
+        unclosed = omega (arith, at_end, o.is_open.4);
+        grown = grown;
+        none_left = none_at_end F sizes riders ending ends (in_cells sizes before);
+      })
       (λ (c : (last : List Touch) × (met left : Extent) × (middle : List Touch) × (call : Entry) × (touches_of i newer ≡ last ++ Called met left ∷ middle) × (met.steps ≡ length call.before) × (o.low ≡ closed call.before) × Calls whole call).
       let call = c.4 in
-      let bl = shorter sizes whole page_some frames_some ends.accepted call.before call.steps c.8.0 in
-      let none = subst (λ (m : ℕ). HasNoneLeft views m (in_cells sizes before)) c.6 (none_here sizes _ _ views order history newer before its.cells i t parts c.1 c.2 c.0 c.3 c.5) in
-      cells_are_memory F sizes riders ending ends page_some frames_some history (newer ++ by_rider i t ∷ []) before its split a (left_by e) call.before bA bl o.is_open.3 (omega (arith, c.7, o.is_open.4)) grown none)
+      record {
+        list = left_by e;
+        later = call.before;
+        begins = bA;
+        ends = shorter sizes whole page_some frames_some ends.accepted call.before call.steps c.8.0;
+        below = o.is_open.3;
+        unclosed = omega (arith, c.7, o.is_open.4);
+        grown = grown;
+        none_left = subst (λ (m : ℕ). HasNoneLeft views m (in_cells sizes before)) c.6 (none_here sizes _ _ views order history newer before its.cells i t parts c.1 c.2 c.0 c.3 c.5);
+      })
       o.behind
+
+  -- and its cell holds what that memory has
+  cell_open : (i : ℕ) (newer before : List TouchBy) (t : Touch) (a : ℕ) → history ≡ newer ++ by_rider i t ∷ before → OpenAt sizes (Calls (ends.steps_cut ++ ending.journal)) (closed (ends.steps_cut ++ ending.journal)) (touches_of i newer) (touches_of i before) a
+      → held (cell_at sizes a) (in_cells sizes before) ≡ held a before
+  cell_open i newer before t a parts o =
+      open_cell F sizes riders ending ends page_some frames_some history (newer ++ by_rider i t ∷ []) before its (parts ∙ sym (append_assoc newer (by_rider i t ∷ []) before)) a (open_there i newer before t a parts o)
 
   -- what stands in the order at an act's place found its cell
   cell_finds : (i : ℕ) (newer before : List TouchBy) (t : Touch) → history ≡ newer ++ by_rider i t ∷ before → Finds (in_cells sizes before) (in_cell sizes t)
@@ -148,7 +168,7 @@ module _ (F : Type 0) (sizes : Sizes) (riders : List RiderState) (ending : Endin
       there riders i (omega (arith, less, length-map riders (λ (q : RiderState). q.view)))
 
   -- a change's address is open
-  change_open : (i : ℕ) (newer before : List TouchBy) (a found v : ℕ) → history ≡ newer ++ by_rider i (Changed a found v) ∷ before → OpenAt sizes (Calls (ends.steps_cut ++ ending.journal)) (closed (ends.steps_cut ++ ending.journal)) (touches_of i newer) (touches_of i before) a
+  pub change_open : (i : ℕ) (newer before : List TouchBy) (a found v : ℕ) → history ≡ newer ++ by_rider i (Changed a found v) ∷ before → OpenAt sizes (Calls (ends.steps_cut ++ ending.journal)) (closed (ends.steps_cut ++ ending.journal)) (touches_of i newer) (touches_of i before) a
   change_open i newer before a found v is =
       let r = whose_act i newer before (Changed a found v) is in
       let acts = touches_of i history in
@@ -172,21 +192,22 @@ module _ (F : Type 0) (sizes : Sizes) (riders : List RiderState) (ending : Endin
   change_finds : (i : ℕ) (newer before : List TouchBy) (a found v : ℕ) → history ≡ newer ++ by_rider i (Changed a found v) ∷ before → found ≡ held a before
   change_finds i newer before a found v is = cell_finds i newer before (Changed a found v) is ∙ cell_open i newer before (Changed a found v) a is (change_open i newer before a found v is)
 
+  -- a load's address is open, where its rider's loads are
+  pub load_open : (i : ℕ) (r : RiderState) → slice_get riders i ≡ Some r → AreOpen sizes (touches_of i history) r.calls (closed (ends.steps_cut ++ ending.journal)) → (newer before : List TouchBy) (a v : ℕ) → history ≡ newer ++ by_rider i (Loaded a v) ∷ before
+      → OpenAt sizes (Calls (ends.steps_cut ++ ending.journal)) (closed (ends.steps_cut ++ ending.journal)) (touches_of i newer) (touches_of i before) a
+  load_open i r at opens newer before a v parts =
+      let are = its.each i r at in
+      let begins = (of i r at).begins in
+      let own = own_at i newer before (Loaded a v) parts in
+      let tied = ties sizes whole r (touches_of i history) are begins (tied_at i r at) in
+      find_open sizes (Calls whole) (closed whole) a v (touches_of i before) [] (touches_of i newer) r.calls (closed whole) (subst (λ (l : List Touch). AreOpen sizes l r.calls (closed whole)) own opens) (subst (λ (l : List Touch). AreTied l r.calls) own tied)
+      (all_calls sizes whole r (touches_of i history) are begins (tied_at i r at)) (inl refl)
+
   open_finds : (i : ℕ) (r : RiderState) → slice_get riders i ≡ Some r → AreOpen sizes (touches_of i history) r.calls (closed (ends.steps_cut ++ ending.journal)) → FindMemory i history
   open_finds i r at opens newer before act is = by act is
     where
-      loads : (a v : ℕ) → history ≡ newer ++ by_rider i (Loaded a v) ∷ before → v ≡ held a before
-      loads a v parts =
-          let are = its.each i r at in
-          let begins = (of i r at).begins in
-          let own = own_at i newer before (Loaded a v) parts in
-          let tied = ties sizes whole r (touches_of i history) are begins (tied_at i r at) in
-          let o = find_open sizes (Calls whole) (closed whole) a v (touches_of i before) [] (touches_of i newer) r.calls (closed whole) (subst (λ (l : List Touch). AreOpen sizes l r.calls (closed whole)) own opens) (subst (λ (l : List Touch). AreTied l r.calls) own tied)
-          (all_calls sizes whole r (touches_of i history) are begins (tied_at i r at)) (inl refl) in
-          cell_finds i newer before (Loaded a v) parts ∙ cell_open i newer before (Loaded a v) a parts o
-
       by : (t : Touch) → history ≡ newer ++ by_rider i t ∷ before → FindsMemory before t
-      by (Loaded a v) parts = loads a v parts
+      by (Loaded a v) parts = cell_finds i newer before (Loaded a v) parts ∙ cell_open i newer before (Loaded a v) a parts (load_open i r at opens newer before a v parts)
       by (Changed a f v) parts = change_finds i newer before a f v parts
       by (Stored a v) parts = tt
       by (Called m n) parts = tt

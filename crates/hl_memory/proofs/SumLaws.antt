@@ -3,6 +3,7 @@ use Rattle.std.proofs.Common.{◌≡◌, ℕ, ◌+◌, ◌*◌, ◌<◌, List, [
 use Rattle.std.specs.List.{AllByRecursion as Every}
 use Rattle.std.proofs.lemmas.List.{append-nil, length-map}
 use Rattle.hl_model.specs.Sizes.{Sizes}
+use Rattle.hl_history.specs.declared.view.Entry.{Entry}
 use Rattle.hl_words.specs.declared.view.Touch.{Touch}
 use Rattle.hl_words.specs.declared.view.Touch.TheVariants.{Stored, Loaded, Changed, Called, Looked, Met}
 use Rattle.hl_words.specs.Laws.{AddsUp}
@@ -74,17 +75,17 @@ serial_stored (t ∷ history) finds = by t.touch refl (serial_stored history (λ
     by (Met m x) is rest = subst (λ (u : Touch). IsSerial (by_rider t.rider (stored_of u) ∷ all_stored history)) (sym is) (tt, rest)
 
 -- acts behind which nothing but 0s of sweeps is stored have all that is added
-adds_before : (a total : ℕ) (xs ys : List Touch) → Every (IsZeroed a) xs → AddsUp a total (xs ++ ys) → AddsUp a total ys
-adds_before a total [] ys zero h = h
-adds_before a total (Stored d v ∷ xs) ys zero h = adds_before a total xs ys zero.1 h.1
-adds_before a total (Loaded d v ∷ xs) ys zero h = adds_before a total xs ys zero.1 h
-adds_before a total (Changed d f v ∷ xs) ys zero (inl h) = adds_before a total xs ys zero.1 h.1
-adds_before a total (Changed d f v ∷ xs) ys zero (inr h) =
-    let no : Changed d f v ≡ Stored a 0 = zero.0 v (inr (f, ap (λ (x : ℕ). Changed x f v) h.0)) in
+adds_before : (calls : List Entry) (a total : ℕ) (xs ys : List Touch) → Every (IsZeroed calls a) xs → AddsUp a total (xs ++ ys) → AddsUp a total ys
+adds_before calls a total [] ys zero h = h
+adds_before calls a total (Stored d v ∷ xs) ys zero h = adds_before calls a total xs ys zero.1 h.1
+adds_before calls a total (Loaded d v ∷ xs) ys zero h = adds_before calls a total xs ys zero.1 h
+adds_before calls a total (Changed d f v ∷ xs) ys zero (inl h) = adds_before calls a total xs ys zero.1 h.1
+adds_before calls a total (Changed d f v ∷ xs) ys zero (inr h) =
+    let no : Changed d f v ≡ Stored a 0 = (zero.0 v (inr (f, ap (λ (x : ℕ). Changed x f v) h.0))).0 in
     absurd (cc no)
-adds_before a total (Called met left ∷ xs) ys zero h = adds_before a total xs ys zero.1 h
-adds_before a total (Looked w x ∷ xs) ys zero h = adds_before a total xs ys zero.1 h
-adds_before a total (Met m x ∷ xs) ys zero h = adds_before a total xs ys zero.1 h
+adds_before calls a total (Called met left ∷ xs) ys zero h = adds_before calls a total xs ys zero.1 h
+adds_before calls a total (Looked w x ∷ xs) ys zero h = adds_before calls a total xs ys zero.1 h
+adds_before calls a total (Met m x ∷ xs) ys zero h = adds_before calls a total xs ys zero.1 h
 
 -- acts that store nothing there add nothing
 adds_nothing : (a : ℕ) (ts : List Touch) → last_store a ts ≡ None → AddsUp a 0 ts
@@ -118,7 +119,7 @@ images_are_sums_anywhere F sizes riders ending page k v image totals i page_some
     let r = there riders j (omega (arith, within totals j s at, long)) in
     ⊎_elim
     (λ (adds : AddsUp a s (touches_of j history)).
-    adds_before a s (touches_of j newer) (touches_of j before) (zeroed F sizes riders ending page k image i page_some frames_some inside history newer before its m.2 m.4 j r.0 r.1)
+    adds_before r.0.calls a s (touches_of j newer) (touches_of j before) (zeroed F sizes riders ending page k image i page_some frames_some inside history newer before its m.2 m.4 j r.0 r.1)
     (subst (AddsUp a s) (ap (touches_of j) m.2 ∙ touches_both j newer before) adds))
     (λ (rests : CallsWriteNothing a r.0.calls × (s ≡ 0)).
     let none : last_store a (touches_of j before) ≡ None = newest_write F sizes riders ending page k image i page_some frames_some inside history newer before its m.2 m.4 m.5 j r.0 r.1 ∙ none_by a r.0.calls rests.0 in

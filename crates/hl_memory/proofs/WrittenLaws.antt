@@ -30,7 +30,7 @@ use Rattle.hl_images.proofs.PlaceLaws.{every_in, same_begin, shorter, cleans_lat
 use Rattle.hl_images.proofs.TakenLaws.{sealed_whole, low_call}
 use Rattle.hl_images.proofs.WordLaws.{calls_at, view_at}
 use Rattle.hl_images.proofs.WriterLaws.{newest_step, early, early_calls}
-use Rattle.hl_memory.specs.Acts.{in_cell, in_cells, IsPut, IsWriteAt, AreActs, IsHistory}
+use Rattle.hl_memory.specs.Acts.{in_cell, in_cells, IsPut, IsWriteAt, NoneOfPages, AreActs, IsHistory}
 use Rattle.hl_memory.specs.Images.{ImagesStay}
 use Rattle.hl_memory.proofs.ActLaws.{acts_both, acts_long, own_cells}
 use Rattle.hl_memory.proofs.CutLaws.{IsZeroed, ActsCut, cut_acts}
@@ -180,17 +180,19 @@ module _ (F : Type 0) (sizes : Sizes) (riders : List RiderState) (ending : Endin
       (all_silent a (safe_read_only whole) acts.waiting acts.above low)
 
   -- what it did behind the place
-  pub zeroed : (j : ℕ) (r : RiderState) → slice_get riders j ≡ Some r → Every (IsZeroed (page * sizes.page_size + k)) (touches_of j newer)
+  pub zeroed : (j : ℕ) (r : RiderState) → slice_get riders j ≡ Some r → Every (IsZeroed r.calls (page * sizes.page_size + k)) (touches_of j newer)
   zeroed j r at =
       let c = cut j r at in
-      subst (Every (IsZeroed a)) (sym (same_begin (touches_of j newer) c.front (touches_of j before) (sym (split j) ∙ c.all_are))) c.zeroed
+      subst (Every (IsZeroed r.calls a)) (sym (same_begin (touches_of j newer) c.front (touches_of j before) (sym (split j) ∙ c.all_are))) c.zeroed
 
-  pub stays : (j w : ℕ) (act : Touch) (front base : List TouchBy) → newer ≡ front ++ by_rider j act ∷ base → IsPut act (page * sizes.page_size + k) w → act ≡ Stored (page * sizes.page_size + k) 0
+  pub stays : (j w : ℕ) (act : Touch) (front base : List TouchBy) → newer ≡ front ++ by_rider j act ∷ base → IsPut act (page * sizes.page_size + k) w
+      → (act ≡ Stored (page * sizes.page_size + k) 0) × (r : RiderState) × (slice_get riders j ≡ Some r) × (NoneOfPages r.calls → ⊥)
   stays j w act front base is puts =
       let all : history ≡ front ++ by_rider j act ∷ (base ++ before) = parts ∙ ap (λ (l : List TouchBy). l ++ before) is ∙ append_assoc front (by_rider j act ∷ base) before in
       let r = whose_act F sizes riders ending i.ends page_some frames_some history its j front (base ++ before) act all in
       let own : touches_of j newer ≡ touches_of j front ++ act ∷ touches_of j base = ap (touches_of j) is ∙ touches_both j front (by_rider j act ∷ base) ∙ ap (λ (l : List Touch). touches_of j front ++ l) (own_more j act base) in
-      every_in (IsZeroed a) (touches_of j front) act (touches_of j base) (subst (Every (IsZeroed a)) own (zeroed j r.0 r.1)) w puts
+      let z = every_in (IsZeroed r.0.calls a) (touches_of j front) act (touches_of j base) (subst (Every (IsZeroed r.0.calls a)) own (zeroed j r.0 r.1)) w puts in
+      (z.0, r.0, r.1, z.1)
 
   -- what it stored at the address before the place last is what its calls wrote there last
   pub newest_write : HasNoCalls (map (λ (q : RiderState). q.view) riders) (length i.later) (in_cells sizes before) → (j : ℕ) (r : RiderState) → slice_get riders j ≡ Some r → last_store (page * sizes.page_size + k) (touches_of j before) ≡ written_by (page * sizes.page_size + k) r.calls

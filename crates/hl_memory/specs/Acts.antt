@@ -1,8 +1,8 @@
 -- What riders do at addresses: their touches, each with the address in place of its cell.
-use Rattle.std.specs.Prelude.{ℕ, ◌≡◌, ◌<◌, ◌≤◌, ◌/◌, ◌⊎◌, Some, List, [], ◌∷◌, ◌++◌, map, slice_get}
-use Rattle.std.specs.List.{AllByRecursion}
+use Rattle.std.specs.Prelude.{Bool, true, false, ℕ, ◌≡◌, ◌<◌, ◌≤◌, ◌/◌, ◌⊎◌, Some, List, [], ◌∷◌, ◌++◌, map, slice_get}
+use Rattle.std.specs.List.{AllByRecursion, list_any}
 use Rattle.hl_model.specs.declared.step.Step.{Step}
-use Rattle.hl_model.specs.declared.step.Step.TheVariants.{Write, CleanTake}
+use Rattle.hl_model.specs.declared.step.Step.TheVariants.{Write, FlushTake, FlushDone, CleanTake, CleanDone}
 use Rattle.hl_model.specs.Offsets.{tail}
 use Rattle.hl_model.specs.Pages.{next_to_clean}
 use Rattle.hl_model.specs.Settled.{safe_read_only}
@@ -43,6 +43,18 @@ IsWriteAt sizes a v calls w = (t : ℕ) × (w ≡ Write t a v) × (e : Entry) ×
 abbrev pub IsZeroAt : Sizes → ℕ → ℕ → List Entry → Type 0
 IsZeroAt sizes a v calls = (v ≡ 0) × (list : List Step) × (older : List Entry)
     × (calls ≡ entry list (CleanTake ∷ []) ∷ older) × (next_to_clean sizes list ≡ Some (a / sizes.page_size))
+
+-- a step of whoever flushes pages, or cleans them
+abbrev pub is_of_pages : Step → Bool
+is_of_pages FlushTake = true
+is_of_pages (FlushDone page ok) = true
+is_of_pages CleanTake = true
+is_of_pages (CleanDone page) = true
+is_of_pages _ = false
+
+-- these calls make no such step
+abbrev pub NoneOfPages : List Entry → Type 0
+NoneOfPages calls = AllByRecursion (λ e. list_any is_of_pages e.steps ≡ false) calls
 
 -- Each store of these acts is a write at its address that a later call of these entered, or one that still waits; or the 0
 -- of a sweep, at the address of the page that is swept. All lists stand newest first

@@ -12,7 +12,7 @@ use Rattle.hl_words.specs.States.{RiderState}
 use Rattle.hl_keeper.specs.Endings.{EndingState}
 use Rattle.hl_images.specs.Images.{IsImaged}
 use Rattle.hl_images.specs.Writes.{CallsWriteNothing, LastWrites}
-use Rattle.hl_memory.specs.Acts.{in_cells, IsPut, IsHistory}
+use Rattle.hl_memory.specs.Acts.{in_cells, IsPut, NoneOfPages, IsHistory}
 
 -- Each word of the image of a flushed page is what that memory had there at a place of the history that
 -- stands behind all that riders did before calls that left less than the page's take, and before all that
@@ -30,7 +30,7 @@ ImagesAreMemory F = (sizes : Sizes) (riders : List RiderState) (ending : EndingS
     × HasNoCalls views (length imaged.later) (in_cells sizes before)
 
 -- And there that memory stays so, but for the 0s of the page's own sweep: behind that place nothing else is
--- stored at the word's address
+-- stored at the word's address, and that by a rider which flushes or cleans pages
 abbrev pub ImagesStay : Type 0 → Type 0
 ImagesStay F = (sizes : Sizes) (riders : List RiderState) (ending : EndingState F) (page k : ℕ)
     (image : List ℕ) (imaged : IsImaged sizes riders ending page image)
@@ -41,7 +41,8 @@ ImagesStay F = (sizes : Sizes) (riders : List RiderState) (ending : EndingState 
     → IsHistory sizes whole riders imaged.ends.ruled.rule.order.0 history → history ≡ newer ++ before
     → HasCalls views (length imaged.list + 1) (in_cells sizes before)
     → (j w : ℕ) (act : Touch) (front base : List TouchBy) → newer ≡ front ++ by_rider j act ∷ base
-    → IsPut act a w → act ≡ Stored a 0
+    → IsPut act a w
+    → (act ≡ Stored a 0) × (r : RiderState) × (slice_get riders j ≡ Some r) × (NoneOfPages r.calls → ⊥)
 
 -- Where no rider but one wrote at its address, a word of an image is the one list's word there
 abbrev pub ImagesAreWords : Type 0 → Type 0

@@ -1,6 +1,5 @@
 -- That the acts of riders stay what they are, and their loads at open addresses, by each call of a domain.
-use Rattle.std.specs.Prelude.{ℕ, ◌≡◌, ◌*◌, ◌<◌, ◌≤◌, ◌⊎◌, false, true, Some, None, List, [], ◌∷◌, ◌++◌, length, map}
-use Rattle.std.specs.List.{AllByRecursion}
+use Rattle.std.specs.Prelude.{ℕ, ◌≡◌, ◌<◌, ◌≤◌, ◌⊎◌, false, true, Some, None, List, [], ◌∷◌, ◌++◌, length, map}
 use Rattle.hl_model.specs.declared.slot.Slot.{Slot}
 use Rattle.hl_model.specs.declared.step.Step.{Step}
 use Rattle.hl_model.specs.declared.step.Step.TheVariants.{Acquire, Release}
@@ -50,6 +49,9 @@ pub record ActsAreKept (sizes : Sizes) : Type 0 where
   pub new : (name : ℕ) → RiderActs sizes (new_rider name) []
   pub told : (past : Known) (r : RiderState) (acts : List Touch) → RiderActs sizes r acts
       → RiderActs sizes (with_view (told past r.view) r) (Met past.name (length past.touches) ∷ acts)
+  -- a call of a rider without a pass that makes no step
+  pub rests : (was now : ℕ) (list : List Step) (r : RiderState) (acts : List Touch) → RiderActs sizes r acts
+      → RiderActs sizes (with_entry was now list [] r) (call_act was now list [] ∷ acts)
   pub acquires : (was now : ℕ) (list : List Step) (t stamp : ℕ) (slot : Slot) (r : RiderState)
       (acts : List Touch) → slot.view.tail ≤ tail sizes (list ++ Acquire t ∷ []) → RiderActs sizes r acts
       → PassActs sizes (new_pass t stamp slot (with_entry was now list (Acquire t ∷ []) r))
@@ -101,16 +103,10 @@ pub record ActsAreKept (sizes : Sizes) : Type 0 where
       → IsAccepted sizes whole → slot_view sizes p.slot whole ≡ Some p.held → PassActs sizes p acts
       → AreActsOf sizes whole p.rider acts × AreOpen sizes acts p.rider.calls (closed whole)
 
--- these touches load only cells that there are
-abbrev pub LoadsWithin : Sizes → List Touch → Type 0
-LoadsWithin sizes ts =
-    AllByRecursion (λ t. (d v : ℕ) → t ≡ Loaded d v → d < sizes.frames * sizes.page_size) ts
-
 -- Whoever's stores are entered has acts, whatever addresses its loads had
 abbrev pub ActsStand : Type 0
 ActsStand = (sizes : Sizes) (whole : List Step) (r : RiderState) → 0 < sizes.page_size → 0 < sizes.frames
-    → StoresEnter sizes whole r → LoadsWithin sizes r.view.touches
-    → (acts : List Touch) × AreActsOf sizes whole r acts
+    → StoresEnter sizes whole r → (acts : List Touch) × AreActsOf sizes whole r acts
 
 -- A call of a pass that meets no fault met the pass's slot with the view that the pass holds
 abbrev pub CallsMeetView : Type 0 → Type 0

@@ -2,3 +2,5 @@ pub mod Acts
 pub mod Memory
 pub mod Images
 pub mod Keeping
+pub mod Traces
+pub mod OneTrace

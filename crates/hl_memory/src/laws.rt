@@ -2,6 +2,7 @@
 ghost use Rattle.hl_model.specs.Sizes.{Sizes as SIZES};
 ghost use Rattle.hl_memory.specs.Images.{ImagesAreMemory, ImagesAreSumsAnywhere, ImagesAreWords, ImagesAreWrites, ImagesAreZero, ImagesStay};
 ghost use Rattle.hl_memory.specs.Keeping.{ActsAreKept, ActsStand, CallsMeetView};
+ghost use Rattle.hl_memory.specs.OneTrace.{TracesAreOne};
 ghost use Rattle.hl_memory.specs.Memory.{CellsAreMemory, ChangesFindMemory, HistoriesStand, LoadsFindMemory, OneMemory, OpenFindMemory, SeenIsOpen, WordsAreMemory};
 
 use hl_action::Task;
@@ -93,4 +94,10 @@ pub fn acts_stand()
 /// An accepted call of a pass met its slot with the view that the pass holds.
 pub fn calls_meet_view<F: Task>()
     ensures { CallsMeetView F }
+{}
+
+/// Where the first riders of a domain have traces, and the others only serve them, all that those did is one trace, in
+/// which each load, and each change, found what the newest store before it at its very address left.
+pub fn traces_are_one<F: Task>()
+    ensures { TracesAreOne F }
 {}

@@ -31,7 +31,17 @@
 //! (`ImagesAreWords`), so 0 if none did (`ImagesAreZero`); if more did, what one of them wrote there last
 //! (`ImagesAreWrites`); and the sum, if they all added (`ImagesAreSumsAnywhere`).
 //!
+//! A rider's **trace** is the same as a list of plain [`Act`]s, the newest first: what it placed, stored, loaded and
+//! changed at which address, and how long the one list was after each of its locked calls. It is a function of the
+//! rider's touches and calls (`trace`): of the addresses that a cell can have, a pass sees but one, since the log is
+//! never longer than its frames behind what is closed. Of riders that have traces (`RiderTraces`), beside others that
+//! only sweep, copy and answer (`Serves`), all acts are one trace (`TracesAreOne`): no touch, call or slot is named in
+//! what it says.
+//!
 //! Nothing is said of loads outside a pass that are no copy of a page. All laws are in [`laws`].
 #![tactic(auto)]
 
+mod act;
 pub mod laws;
+
+pub use act::Act;

@@ -1,0 +1,299 @@
+-- What all threads did is one trace, and the words and the images are its memory.
+use Rattle.std.proofs.Common.{◌≡◌, ℕ, zero, suc, ◌+◌, ◌*◌, ◌<◌, ◌≤◌, ◌⊎◌, List, [], ◌∷◌, ◌++◌, length, map, refl, ap, sym, ◌∙◌, ⊎_elim, subst, arith, append_assoc}
+use Rattle.std.specs.Prelude.{Option, Some, None, slice_get}
+use Rattle.std.specs.List.{AllByRecursion as Every}
+use Rattle.std.proofs.lemmas.Bool.{cases_lt}
+use Rattle.hl_model.specs.declared.step.Step.{Step}
+use Rattle.hl_model.specs.declared.step.Step.TheVariants.{Write}
+use Rattle.hl_model.specs.Offsets.{tail}
+use Rattle.hl_model.specs.Settled.{closed}
+use Rattle.hl_model.specs.Sizes.{Sizes}
+use Rattle.hl_history.specs.declared.view.Entry.{Entry}
+use Rattle.hl_history.specs.Lists.{Begins, left_by, IsOf}
+use Rattle.hl_words.specs.declared.view.Extent.{Extent}
+use Rattle.hl_words.specs.declared.view.RiderView.{RiderView}
+use Rattle.hl_words.specs.declared.view.Touch.{Touch}
+use Rattle.hl_words.specs.declared.view.Touch.TheVariants.{Loaded, Changed, Called}
+use Rattle.hl_words.specs.Rule.{TouchBy, by_rider, held, touches_of, IsSerial}
+use Rattle.hl_words.specs.States.{RiderState, AreTied}
+use Rattle.hl_words.proofs.CallOrder.{met_all}
+use Rattle.hl_words.proofs.Cut.{every_at}
+use Rattle.hl_words.proofs.Orders.{own_more}
+use Rattle.hl_words.proofs.PastProofs.{serial_end, touches_both}
+use Rattle.hl_keeper.specs.Endings.{EndingState}
+use Rattle.hl_domain.specs.Domains.{IsEnding}
+use Rattle.hl_images.specs.Entered.{newest_writes}
+use Rattle.hl_images.specs.Flushes.{HasFlushed}
+use Rattle.hl_images.proofs.ImageLaws.{flushed_by}
+use Rattle.hl_images.proofs.PlaceLaws.{every_both, shorter}
+use Rattle.hl_images.proofs.WordLaws.{calls_at, within}
+use Rattle.hl_images.proofs.WriterLaws.{writes_both}
+use Rattle.hl_memory.specs.Acts.{in_cells, IsPut, IsWriteAt, IsZeroAt, AreActs, AreActsOf, IsHistory}
+use Rattle.hl_memory.specs.Memory.{AreOpen}
+use Rattle.hl_memory.specs.OneTrace.{ActBy, acts_by, left_at, EndsBelow, LeftUpTo, AreOne, Serves, HasOneTrace, TracesAreOne}
+use Rattle.hl_memory.specs.Traces.{by_address, acts_of, trace, RiderTraces}
+use Rattle.hl_memory.proofs.ActLaws.{cells_both}
+use Rattle.hl_memory.proofs.EndLaws.{open_at_end, loaded_at, words_are_memory}
+use Rattle.hl_memory.proofs.FateLaws.{put_tied}
+use Rattle.hl_memory.proofs.FindLaws.{act_is, find_act, IsEntering, ties as acts_tied}
+use Rattle.hl_memory.proofs.JoinLaws.{joined, dropped, all_dropped, joined_theirs, joined_each, OnlyFirst, NoneOfFirst, joined_leaves, joined_behind, CalledUpTo, all_up_to, all_up_more, joined_up_to, Ties, lower_ties, joined_below, one_more, own_touch, shown_low, shown_high}
+use Rattle.hl_memory.proofs.KeepLaws.{acts_are_kept, acts_from}
+use Rattle.hl_memory.proofs.LoadLaws.{OpenThere, open_cell, open_unswept}
+use Rattle.hl_memory.proofs.OpenLaws.{change_open, changes_find_memory, load_open, open_there, open_find_memory, histories_stand, whose_act}
+use Rattle.hl_memory.proofs.WrittenLaws.{stays}
+
+-- calls of no rider, or of this
+abbrev calls_of : Option RiderState → List Entry
+calls_of None = []
+calls_of (Some r) = r.calls
+
+-- no rider lies beyond the last
+beyond : (xs : List RiderState) (i : ℕ) → length xs ≤ i → slice_get xs i ≡ None
+beyond [] i far = refl
+beyond (x ∷ xs) zero far = absurd (omega (arith, far))
+beyond (x ∷ xs) (suc i) far = beyond xs i (omega (arith, far))
+
+-- a write among some steps is one of their writes
+one_stays : (steps older : List Step) (w : Step) → newest_writes steps (w ∷ older) ≡ [] → ⊥
+one_stays [] older w e = absurd (cc e)
+one_stays (Write t a v ∷ steps) older w e = one_stays steps (w ∷ older) (Write t a v) e
+one_stays (_ ∷ steps) older w e = one_stays steps older w e
+
+has_write : (first rest : List Step) (t a v : ℕ) → newest_writes (first ++ Write t a v ∷ rest) [] ≡ [] → ⊥
+has_write first rest t a v e = one_stays rest (newest_writes first []) (Write t a v) (sym (writes_both first (Write t a v ∷ rest) []) ∙ e)
+
+-- an act that stores, of a rider whose calls write nothing and of whom nothing waits, is a 0 of a sweep
+zero_of : (sizes : Sizes) (whole : List Step) (all xs ys : List Touch) (act : Touch) (a v : ℕ) (calls : List Entry) → all ≡ xs ++ act ∷ ys → AreActs sizes all calls [] → AreTied all calls → Every (λ (e : Entry). Begins (left_by e) whole × (newest_writes e.steps [] ≡ [])) calls → IsPut act a v
+    → (older : List Entry) × AreTied ys older × Every (λ (e : Entry). Begins (left_by e) whole) older × IsZeroAt sizes a v older
+zero_of sizes whole all xs ys act a v calls split entered tied holds puts =
+    let Q = λ (e : Entry). Begins (left_by e) whole × (newest_writes e.steps [] ≡ []) in
+    let f = find_act sizes all act ys (λ (w : Step). ⊥) Q [] xs calls [] split (subst (λ (l : List Touch). AreActs sizes l calls []) split entered) (subst (λ (l : List Touch). AreTied l calls) split tied) holds tt in
+    let begin = every_first f.calls f.holds in
+    ⊎_elim
+    (λ (w : (w : Step) × (older : List Step) × (f.waiting ≡ w ∷ older) × IsWriteAt sizes a v f.calls w).
+    absurd
+    (⊎_elim (λ (none : ⊥). none) (λ (g : IsEntering all act ys Q w.0). has_write g.first g.rest w.3.0 a v (ap (λ (l : List Step). newest_writes l []) (sym (g.steps ∙ ap (λ (s : Step). g.first ++ s ∷ g.rest) w.3.1)) ∙ g.holds.1))
+    (subst (Every (λ (u : Step). ⊥ ⊎ IsEntering all act ys Q u)) w.2 f.origins).0))
+    (λ (z : IsZeroAt sizes a v f.calls). (f.calls, put_tied a v act ys f.calls puts f.tied, begin, z))
+    (act_is sizes a v act ys f.calls f.waiting puts f.entered)
+  where
+    every_first : (es : List Entry) → Every (λ (e : Entry). Begins (left_by e) whole × (newest_writes e.steps [] ≡ [])) es → Every (λ (e : Entry). Begins (left_by e) whole) es
+    every_first [] h = tt
+    every_first (e ∷ es) h = (h.0.0, every_first es h.1)
+
+module _ (F : Type 0) (sizes : Sizes) (riders : List RiderState) (ending : EndingState F) (ends : IsEnding sizes riders ending) (count : ℕ) (page_some : 0 < sizes.page_size) (frames_some : 0 < sizes.frames)
+    (first : (i : ℕ) (r : RiderState) → i < count → slice_get riders i ≡ Some r → RiderTraces sizes r) (others : (i : ℕ) (r : RiderState) → count ≤ i → slice_get riders i ≡ Some r → Serves sizes r) where
+  abbrev whole : List Step
+  whole = ends.steps_cut ++ ending.journal
+
+  of : (i : ℕ) (r : RiderState) → slice_get riders i ≡ Some r → IsOf (ends.steps_cut ++ ending.journal) r.calls
+  of i r at = every_at (IsOf (ends.steps_cut ++ ending.journal)) (map (λ (z : RiderState). z.calls) riders) ends.one_list.each i r.calls (calls_at riders i r at)
+
+  -- The acts of a rider
+  record Chosen (i : ℕ) (acts : List Touch) (o : Option RiderState) : Type 0 where
+    are : (r : RiderState) → o ≡ Some r → AreActsOf sizes (ends.steps_cut ++ ending.journal) r acts
+    own : (r : RiderState) → o ≡ Some r → i < count → acts ≡ by_address sizes r.view.touches r.calls
+    opens : (r : RiderState) → o ≡ Some r → i < count → AreOpen sizes acts r.calls (closed (ends.steps_cut ++ ending.journal))
+    zeros : (r : RiderState) → o ≡ Some r → count ≤ i → AreActs sizes acts r.calls []
+    none : o ≡ None → acts ≡ []
+
+  same_rider : (r q : RiderState) → Some r ≡ Some q → r ≡ q
+  same_rider r q e = cc e
+
+  no_rider : (r : RiderState) → None ≡ Some r → ⊥
+  no_rider r e = absurd (cc e)
+
+  chosen : (i : ℕ) → (acts : List Touch) × Chosen i acts (slice_get riders i)
+  chosen i = by (slice_get riders i) refl
+    where
+      by : (o : Option RiderState) → slice_get riders i ≡ o → (acts : List Touch) × Chosen i acts o
+      by None at = (
+        [],
+        record {
+          are = λ r e. absurd (no_rider r e);
+          own = λ r e less. absurd (no_rider r e);
+          opens = λ r e less. absurd (no_rider r e);
+          zeros = λ r e far. absurd (no_rider r e);
+          none = λ e. refl;
+        },
+      )
+      by (Some r) at = ⊎_elim low high (cases_lt i count)
+        where
+          low : i < count → (acts : List Touch) × Chosen i acts (Some r)
+          low less =
+              let acts = by_address sizes r.view.touches r.calls in
+              let h = (acts_are_kept sizes).ends (ends.steps_cut ++ ending.journal) r acts (first i r less at).acts in (
+                acts,
+                record {
+                  are = λ q e. subst (λ (x : RiderState). AreActsOf sizes (ends.steps_cut ++ ending.journal) x acts) (same_rider r q e) h.0;
+                  own = λ q e some. ap (λ (x : RiderState). by_address sizes x.view.touches x.calls) (same_rider r q e);
+                  opens = λ q e some. subst (λ (x : RiderState). AreOpen sizes acts x.calls (closed (ends.steps_cut ++ ending.journal))) (same_rider r q e) h.1;
+                  zeros = λ q e far. absurd (omega (arith, less, far));
+                  none = λ e. absurd (no_rider r (sym e));
+                },
+              )
+
+          high : count ≤ i → (acts : List Touch) × Chosen i acts (Some r)
+          high far =
+              let s = others i r far at in
+              let made = acts_from sizes page_some frames_some r.view.touches r.calls [] s.enters.entered s.enters.within in
+              let are : AreActsOf sizes (ends.steps_cut ++ ending.journal) r made.0 = record { waiting = []; touches = made.1; entered = made.2; frees = s.enters.frees; calls = s.enters.calls; above = tt } in (
+                made.0,
+                record {
+                  are = λ q e. subst (λ (x : RiderState). AreActsOf sizes (ends.steps_cut ++ ending.journal) x made.0) (same_rider r q e) are;
+                  own = λ q e less. absurd (omega (arith, less, far));
+                  opens = λ q e less. absurd (omega (arith, less, far));
+                  zeros = λ q e some. subst (λ (x : RiderState). AreActs sizes made.0 x.calls []) (same_rider r q e) made.2;
+                  none = λ e. absurd (no_rider r (sym e));
+                },
+              )
+
+  history_is : (history : List TouchBy) × IsHistory sizes (ends.steps_cut ++ ending.journal) riders ends.ruled.rule.order.0 history × ((i : ℕ) → touches_of i history ≡ (chosen i).0)
+  history_is = histories_stand F sizes riders ending ends (λ i. (chosen i).0) (λ i r at. (chosen i).1.are r at) (λ i far. (chosen i).1.none (beyond riders i far))
+
+  abbrev history : List TouchBy
+  history = history_is.0
+
+  its : IsHistory sizes (ends.steps_cut ++ ending.journal) riders ends.ruled.rule.order.0 history_is.0
+  its = history_is.1
+
+  abbrev views : List RiderView
+  views = map (λ (q : RiderState). q.view) riders
+
+  abbrev calls_at_end : ℕ → List Entry
+  calls_at_end i = calls_of (slice_get riders i)
+
+  -- the acts of a rider and its calls
+  acts_begin : (i : ℕ) (r : RiderState) → slice_get riders i ≡ Some r → AreTied (touches_of i history_is.0) r.calls × Every (λ (e : Entry). Begins (left_by e) (ends.steps_cut ++ ending.journal)) r.calls
+  acts_begin i r at =
+      let begins = (of i r at).begins in
+      (acts_tied sizes whole r (touches_of i history) (its.each i r at) begins (every_at (λ (z : RiderState). AreTied z.view.touches z.calls) riders ends.tied i r at), begins)
+
+  begin_ties : Ties sizes count page_some (ends.steps_cut ++ ending.journal) history_is.0 (λ i. calls_of (slice_get riders i))
+  begin_ties i = by (slice_get riders i) refl
+    where
+      by : (o : Option RiderState) → slice_get riders i ≡ o → AreTied (touches_of i history_is.0) (calls_of o) × Every (λ (e : Entry). Begins (left_by e) (ends.steps_cut ++ ending.journal)) (calls_of o)
+      by None at = (subst (λ (l : List Touch). AreTied l []) (sym (history_is.2 i ∙ (chosen i).1.none at)) tt, tt)
+      by (Some r) at = acts_begin i r at
+
+  -- where an address is open, nobody but the first riders stored at it before
+  only_first : (newer b : List TouchBy) (a : ℕ) → history_is.0 ≡ newer ++ b → OpenThere sizes (ends.steps_cut ++ ending.journal) (map (λ (q : RiderState). q.view) riders) a b → OnlyFirst sizes count a b
+  only_first newer b a parts o front i act base w at puts = ⊎_elim (λ (low : i < count). low) (λ (far : count ≤ i). absurd (high far)) (cases_lt i count)
+    where
+      all : history_is.0 ≡ (newer ++ front) ++ by_rider i act ∷ base
+      all = parts ∙ ap (λ (l : List TouchBy). newer ++ l) at ∙ sym (append_assoc newer front (by_rider i act ∷ base))
+
+      split : touches_of i history_is.0 ≡ touches_of i (newer ++ front) ++ act ∷ touches_of i base
+      split = ap (touches_of i) all ∙ touches_both i (newer ++ front) (by_rider i act ∷ base) ∙ ap (λ (l : List Touch). touches_of i (newer ++ front) ++ l) (own_more i act base)
+
+      high : count ≤ i → ⊥
+      high far =
+          let r = whose_act F sizes riders ending ends page_some frames_some history its i (newer ++ front) base act all in
+          let entered = subst (λ (l : List Touch). AreActs sizes l r.0.calls []) (sym (history_is.2 i)) ((chosen i).1.zeros r.0 r.1 far) in
+          let t = acts_begin i r.0 r.1 in
+          let holds = every_both (λ (e : Entry). Begins (left_by e) whole) (λ (e : Entry). newest_writes e.steps [] ≡ []) r.0.calls t.1 (others i r.0 far r.1).writes in
+          let z = zero_of sizes whole (touches_of i history) (touches_of i (newer ++ front)) (touches_of i base) act a w r.0.calls split entered t.0 holds puts in
+          open_unswept F sizes riders ending ends page_some frames_some history newer b its parts a o front i act base w z.0 at z.1 z.2 z.3
+
+  -- what is there of an open address is what the trace has
+  kept : (newer b : List TouchBy) (a : ℕ) (calls : ℕ → List Entry) → history_is.0 ≡ newer ++ b → OpenThere sizes (ends.steps_cut ++ ending.journal) (map (λ (q : RiderState). q.view) riders) a b → held a b ≡ left_at a (joined sizes count b calls)
+  kept newer b a calls parts o = sym (joined_leaves sizes count a b calls (only_first newer b a parts o))
+
+  -- the acts of the first riders are one trace
+  are_one : (newer b : List TouchBy) (calls : ℕ → List Entry) → history_is.0 ≡ newer ++ b → Ties sizes count page_some (ends.steps_cut ++ ending.journal) b calls → AreOne (joined sizes count b calls)
+  are_one newer [] calls is tied = tt
+  are_one newer (t ∷ b) calls is tied =
+      let sooner = are_one (newer ++ t ∷ []) b (dropped t calls) next lower in
+      ⊎_elim
+      (λ (low : t.rider < count). subst AreOne (sym (shown_low sizes count t calls X low)) (one_more sizes count page_some t.rider t.touch (calls t.rider) X sooner (loads low) (changes low) meets))
+      (λ (far : count ≤ t.rider). subst AreOne (sym (shown_high sizes count t calls X far)) sooner)
+      (cases_lt t.rider count)
+    where
+      X : List ActBy
+      X = joined sizes count b (dropped t calls)
+
+      next : history_is.0 ≡ (newer ++ t ∷ []) ++ b
+      next = is ∙ sym (append_assoc newer (t ∷ []) b)
+
+      lower : Ties sizes count page_some (ends.steps_cut ++ ending.journal) b (dropped t calls)
+      lower = lower_ties sizes count page_some whole t b calls tied
+
+      here : (u : Touch) → t.touch ≡ u → history_is.0 ≡ newer ++ by_rider t.rider u ∷ b
+      here u e = is ∙ ap (λ (x : Touch). newer ++ by_rider t.rider x ∷ b) e
+
+      loads : t.rider < count → (a v : ℕ) → t.touch ≡ Loaded a v → v ≡ left_at a (joined sizes count b (dropped t calls))
+      loads low a v e =
+          let parts = here (Loaded a v) e in
+          let r = whose_act F sizes riders ending ends page_some frames_some history its t.rider newer b (Loaded a v) parts in
+          let opens = subst (λ (l : List Touch). AreOpen sizes l r.0.calls (closed whole)) (sym (history_is.2 t.rider)) ((chosen t.rider).1.opens r.0 r.1 low) in
+          let o = load_open F sizes riders ending ends page_some frames_some history its t.rider r.0 r.1 opens newer b a v parts in
+          open_find_memory F sizes riders ending ends page_some frames_some history its t.rider r.0 r.1 opens newer b (Loaded a v) parts
+          ∙ kept (newer ++ t ∷ []) b a (dropped t calls) next (open_there F sizes riders ending ends page_some frames_some history its t.rider newer b (Loaded a v) a parts o)
+
+      changes : t.rider < count → (a f v : ℕ) → t.touch ≡ Changed a f v → f ≡ left_at a (joined sizes count b (dropped t calls))
+      changes low a f v e =
+          let parts = here (Changed a f v) e in
+          let o = change_open F sizes riders ending ends page_some frames_some history its t.rider newer b a f v parts in
+          changes_find_memory F sizes riders ending ends page_some frames_some history newer b its t.rider a f v parts
+          ∙ kept (newer ++ t ∷ []) b a (dropped t calls) next (open_there F sizes riders ending ends page_some frames_some history its t.rider newer b (Changed a f v) a parts o)
+
+      meets : (met left : Extent) (call : Entry) (older : List Entry) → t.touch ≡ Called met left → calls t.rider ≡ call ∷ older
+          → Every (λ (x : ActBy). LeftUpTo left.steps x.act) (joined sizes count b (dropped t calls)) × Every (λ (x : ActBy). EndsBelow (tail sizes call.before) x.act) (joined sizes count b (dropped t calls))
+      meets met left call older e own =
+          let parts = here (Called met left) e in
+          let cells = sym its.cells ∙ ap (in_cells sizes) parts ∙ cells_both sizes newer (by_rider t.rider (Called met left) ∷ b) in
+          let serial = serial_end (in_cells sizes newer) (by_rider t.rider (Called met left) ∷ in_cells sizes b) (subst IsSerial cells ends.ruled.rule.order.1.serial) in
+          let few = all_up_to sizes count met b (met_all t.rider met left (in_cells sizes b) serial) in
+          let its_tie = subst (λ (ts : List Touch). AreTied ts (calls t.rider) × Every (λ (x : Entry). Begins (left_by x) whole) (calls t.rider)) (own_touch t b t.rider refl ∙ ap (λ (u : Touch). u ∷ touches_of t.rider b) e) (tied t.rider) in
+          let tie = subst (λ (es : List Entry). AreTied (Called met left ∷ touches_of t.rider b) es × Every (λ (x : Entry). Begins (left_by x) whole) es) own its_tie in
+          let begins = shorter sizes whole page_some frames_some ends.accepted call.before call.steps tie.1.0 in (
+            joined_up_to sizes count left.steps b (dropped t calls) (all_up_more sizes count met.steps left.steps (omega (arith, tie.0.0, tie.0.1)) b few),
+            joined_below sizes count page_some frames_some whole ends.accepted call.before begins b (dropped t calls) lower (subst (λ (n : ℕ). Every (λ (x : TouchBy). CalledUpTo sizes count n x.touch) b) tie.0.0 few),
+          )
+
+  abbrev all_acts : List ActBy
+  all_acts = joined sizes count history_is.0 (λ i. calls_of (slice_get riders i))
+
+  each_own : (i : ℕ) (r : RiderState) → i < count → slice_get riders i ≡ Some r → acts_by i (joined sizes count history_is.0 (λ j. calls_of (slice_get riders j))) ≡ trace sizes r
+  each_own i r less at =
+      joined_each sizes count i less history (λ j. calls_of (slice_get riders j))
+      ∙ ap (λ (l : List Touch). acts_of sizes l (calls_of (slice_get riders i))) (history_is.2 i ∙ (chosen i).1.own r at less)
+      ∙ ap (λ (o : Option RiderState). acts_of sizes (by_address sizes r.view.touches r.calls) (calls_of o)) at
+
+  -- the image of a page that was flushed
+  page_word : (i page k v : ℕ) (image : List ℕ) (r : RiderState) → slice_get riders i ≡ Some r → HasFlushed sizes page image r → slice_get image k ≡ Some v → v ≡ left_at (page * sizes.page_size + k) (joined sizes count history_is.0 (λ j. calls_of (slice_get riders j)))
+  page_word i page k v image r at flushed there =
+      let calls = λ (j : ℕ). calls_of (slice_get riders j) in
+      let a = page * sizes.page_size + k in
+      let f = flushed_by F sizes riders ending i page image r ends at flushed in
+      let imaged = f.0 in
+      let own = subst (λ (e : IsEnding sizes riders ending). IsHistory sizes (e.steps_cut ++ ending.journal) riders e.ruled.rule.order.0 history) (sym f.1) its in
+      let l = loaded_at F sizes riders ending page k v image imaged page_some frames_some history own there in
+      let o = subst (λ (e : IsEnding sizes riders ending). OpenThere sizes (e.steps_cut ++ ending.journal) views a l.before) f.1 l.is_open in
+      let inside : k < sizes.page_size = omega (arith, within image k v there, imaged.places) in
+      let none : NoneOfFirst sizes count a l.newer = λ front j act base w is puts.
+      ⊎_elim
+      (λ (low : j < count).
+      let s = stays F sizes riders ending page k image imaged page_some frames_some inside history l.newer l.before own l.parts l.calls j w act front base is puts in
+      absurd (s.3 (first j s.1 low s.2).pages))
+      (λ (far : count ≤ j). far)
+      (cases_lt j count) in
+      l.finds ∙ open_cell F sizes riders ending ends page_some frames_some history l.newer l.before its l.parts a o
+      ∙ kept l.newer l.before a (all_dropped sizes count a l.newer calls) l.parts o
+      ∙ sym (joined_behind sizes count a l.newer l.before calls none)
+      ∙ ap (λ (h : List TouchBy). left_at a (joined sizes count h calls)) (sym l.parts)
+
+  pub one_trace : HasOneTrace sizes riders ending ends count
+  one_trace = record {
+    all = all_acts;
+    one = are_one [] history_is.0 (λ i. calls_of (slice_get riders i)) refl begin_ties;
+    each = each_own;
+    theirs = joined_theirs sizes count history_is.0 (λ i. calls_of (slice_get riders i));
+    words = λ a unclosed below.
+        words_are_memory F sizes riders ending ends page_some frames_some history its a below unclosed
+        ∙ kept [] history a (λ i. calls_of (slice_get riders i)) refl (open_at_end F sizes riders ending ends history its a below unclosed);
+    pages = page_word;
+  }
+
+pub traces_are_one : (F : Type 0) → TracesAreOne F
+traces_are_one F sizes riders ending ends count page_some frames_some first others = one_trace F sizes riders ending ends count page_some frames_some first others
