@@ -1,13 +1,15 @@
+pub mod ActLaws
 pub mod ConfigLaws
 pub mod DoneLaws
-pub mod EnterLaws
 pub mod EvictedLaws
 pub mod FinishLaws
 pub mod HelpLaws
 pub mod LeaveLaws
 pub mod OutLaws
+pub mod RecordActs
 pub mod RecordLaws
 pub mod ReportLaws
 pub mod RoomLaws
+pub mod ThreadLaws
 pub mod TryLaws
 pub mod WaitLaws

@@ -8,6 +8,7 @@ use Rattle.hl.specs.declared.session.tries.Cure.{Cure}
 use Rattle.hl.specs.declared.session.tries.Cure.TheVariants.{Refresh, Others}
 use Rattle.hl.specs.Helps.{Helps}
 use Rattle.hl.specs.Sessions.{SessionState}
+use Rattle.hl.specs.Traces.{OnlyMeets}
 
 -- what may cure what a call was refused for
 abbrev pub cure_of : Fault → Option Cure
@@ -48,9 +49,9 @@ module _ {O S T X : Type 0} (Tries : O → S → Result T X → O → S → Type
     pub answer : Tries operation last result left new
     pub all_tried : IfErr result (λ error. Cures error None ⊎ (vain ≡ again))
 
--- a round of help of a session, which stays one of its log, beside whom it was
+-- a round of help of a session, which stays one of its log, beside whom it was, and only met
 abbrev pub SessionHelps : {F : Type 0} → (F → FiringRecord → ℕ → Type 0) → (ℕ → FiringRecord → ℕ → Type 0)
     → SessionState → Cure → Result Bool Fault → SessionState → Type 0
 SessionHelps {F} gives keeps old _ help new =
     Helps F old.log old.beside.cuts gives keeps help old.pass new.pass
-    × (new.log ≡ old.log) × (new.beside ≡ old.beside)
+    × (new.log ≡ old.log) × (new.beside ≡ old.beside) × OnlyMeets old new

@@ -1,5 +1,5 @@
 -- What is left of a log that was opened and closed by one call.
-use Rattle.std.specs.Prelude.{◌≡◌, ◌≢◌, ◌<◌, ◌+◌, ◌⊎◌, ℕ, Bool, true, Option, None, Result, Ok, Err, IfErr, MatchResult, List, length, map, drop, slice_index_or, Vec}
+use Rattle.std.specs.Prelude.{◌≡◌, ◌≢◌, ◌<◌, ◌+◌, ◌⊎◌, ℕ, Bool, true, Option, Result, Ok, Err, IfErr, MatchResult, List, ◌∷◌, length, map, drop, slice_index_or, Vec}
 use Rattle.std.specs.List.{AllByRecursion}
 use Rattle.std.specs.declared.alloc.Global.{Global}
 use Rattle.hl_model.specs.declared.fault.Fault.{Fault}
@@ -9,7 +9,9 @@ use Rattle.hl_words.specs.States.{RiderState, new_rider}
 use Rattle.hl_domain.specs.Domains.{DomainState, IsEnding}
 use Rattle.hl_image.specs.Image.{image}
 use Rattle.hl_images.specs.Flushes.{HasFlushed}
-use Rattle.hl_images.specs.Kept.{RiderEnters, PassEnters}
+use Rattle.hl_images.specs.Kept.{RiderEnters}
+use Rattle.hl_memory.specs.declared.act.Act.TheVariants.{Met}
+use Rattle.hl_memory.specs.Traces.{trace, RiderTraces, PassTraces}
 use Rattle.hl_images.specs.Sweeps.{StoresSweep}
 use Rattle.hl_crew.specs.Riders.{has_flushed, FlushesNone, MakesCrewSteps, RidersStay}
 use Rattle.hl.specs.declared.open.Closed.{Closed}
@@ -21,6 +23,7 @@ use Rattle.hl.specs.Devices.{device_has, on_memory}
 use Rattle.hl.specs.Openings.{was_refused}
 use Rattle.hl.specs.Leaves.{LeftByTries}
 use Rattle.hl.specs.Sessions.{Beside, SessionState, beside_crew, Entered}
+use Rattle.hl.specs.Traces.{acts, LeavesByCalls}
 
 -- the part handed out its result and these riders; where they are all, the ending is that of a log with them,
 -- and otherwise it was refused
@@ -34,8 +37,8 @@ pub record IsClosed {Out F : Type 0} (o : Opening Sizes) (Leaves : Out → List 
 
 -- a rider entered a session of the log, beside whom it was to be, a thread ran in it and returned a value of which so
 -- much holds, and its leave was answered so, by as many tries as that takes where a full journal may be cut; the
--- session that it left is of the same log. Each store of the rider is a write that its calls entered; or, where the session
--- couldn't be left, one that waits
+-- session that it left is of the same log. The session's trace began with the call that entered it, and the rider's ends with
+-- the calls by which it was left, or the session's, where it couldn't be
 pub record Stood {Out : Type 0} (F : Type 0) (log : DomainState) (beside : Beside) (may_cut : Bool)
     (Returns : SessionState → SessionState → Out → Type 0) (old : RiderState)
     (left : Result RiderState (Refused SessionState)) (out : Out) : Type 0 where
@@ -47,8 +50,10 @@ pub record Stood {Out : Type 0} (F : Type 0) (log : DomainState) (beside : Besid
   pub ran : Returns first last out
   pub log_stays : last.log ≡ log
   pub met : LeftByTries F may_cut last left
-  pub enters : MatchResult left (RiderEnters log.sizes)
-      (λ refused. PassEnters log.sizes refused.back.pass)
+  pub came : (n : ℕ) × (acts first ≡ Met n ∷ trace log.sizes old)
+  pub went : LeavesByCalls last left
+  pub traces : MatchResult left (RiderTraces log.sizes)
+      (λ refused. PassTraces log.sizes refused.back.pass)
 
 -- why a thread has no result: its rider was refused a session, and is the one handed back; or it ran, and couldn't
 -- leave its session, which was abandoned

@@ -14,4 +14,6 @@ pub mod Reports
 pub mod Rests
 pub mod Rooms
 pub mod Sessions
+pub mod Traces
 pub mod Waits
+pub mod Threads

@@ -1,8 +1,8 @@
 //! A log that threads use beside a crew, and one session more, opened and closed by one call, with one result.
-ghost use Rattle.std.specs.Prelude.{◌≡◌, ◌+◌, ◌<◌, ◌≤◌, [], length, map, vec_len, vec_capacity, true, false, None, Ok, Err, is_some, MatchResult};
+ghost use Rattle.std.specs.Prelude.{◌≡◌, ◌+◌, ◌<◌, ◌≤◌, [], length, map, vec_len, vec_capacity, true, false, Ok, Err, is_some, MatchResult};
 ghost use Rattle.hl_model.specs.declared.fault.Fault.TheVariants.{Size};
 ghost use Rattle.hl_words.specs.States.{IsSeedOf};
-ghost use Rattle.hl_images.specs.Kept.{RiderEnters};
+ghost use Rattle.hl_memory.specs.Traces.{RiderTraces};
 ghost use Rattle.hl_crew.specs.Limited.{duty_cuts};
 ghost use Rattle.hl.specs.Closings.{Tells};
 ghost use Rattle.hl.specs.Configs.{all_fit, cuts_of, opening_of};
@@ -149,7 +149,7 @@ fn finish_log<L: Realm + Send + Sync, R: Wait, P: Work<R>>(
 ) -> Result<Finished<P::Out, P::Job>, Fault>
     requires all { length riders.items + 1 ≡ log.riders }
     requires room { vec_len riders < vec_capacity riders }
-    requires enters { RiderEnters log.sizes last }
+    requires enters { RiderTraces log.sizes last }
     ensures closed { MatchResult result
         (λ finished. (finished.outs ≡ outs)
         × IsFinish P.Job log (duty_cuts shared.now.duty.cut_above) (P.finishes shared.now.work.now)
@@ -175,7 +175,7 @@ fn finish_one<L: Realm + Send + Sync, R: Wait, P: Work<R>>(
     log: &Log<L, P::Job>,
     rider: Rider<L>,
 ) -> (Result<Option<P::Out>, Fault>, Rider<L>)
-    requires { RiderEnters log.now.sizes rider }
+    requires { RiderTraces log.now.sizes rider }
     ensures { Tells P.Job log.now (without_crew (duty_cuts shared.now.duty.cut_above)) true
         (Finishing (P.finishes shared.now.work.now)) rider result.1 result.0 }
 {

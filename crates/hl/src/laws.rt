@@ -1,10 +1,13 @@
-//! What follows for those who wait, for a ticket or for an action, and for those whose page was evicted: each the
-//! contract of a function that does nothing.
+//! What follows for those who wait, for a ticket or for an action, and for those whose page was evicted; and
+//! what all threads did, as one trace. Each is the contract of a function that does nothing.
 ghost use Rattle.hl.specs.Evictions.{EvictedWereFlushed, LoadedEvictedWereFlushed};
 ghost use Rattle.hl.specs.Overs.{OverWereDone};
+ghost use Rattle.hl.specs.Threads.{ThreadsAreOne};
 ghost use Rattle.hl.specs.Waits.{SafeAfterAllMovedOn};
 
+use crate::work::Work;
 use hl_action::Task;
+use std::sync::Wait;
 
 /// Once the number of a bump is safe, each slot that was protected before the bump has refreshed or left since. So a
 /// session that [`wait`](crate::Session::wait) answered for a ticket of another's knows it of that bump, in the one
@@ -32,4 +35,13 @@ pub fn loaded_evicted_were_flushed<F: Task>()
 /// [`wait_until_over`](crate::Session::wait_until_over) answered knows it of a ticket that a bump was answered.
 pub fn over_were_done()
     ensures { OverWereDone }
+{}
+
+/// What the threads of a work did is one trace, if each returned a value and the log was closed
+/// ([`with_threads`](crate::with_threads), [`with_memory`](crate::with_memory)): a list of plain acts, of each thread just
+/// its own, in its order. Each load, and each change, found what the newest store before it at that very address left, or
+/// 0. No two records share an address. The words in memory at the end, from the closed offset to the tail, are what the
+/// list leaves there; and so are those of each page that the crew flushed, whose image the device took.
+pub fn threads_are_one<R: Wait, P: Work<R>>(_work: &P)
+    ensures { ThreadsAreOne P.Job (P.returns _work.now) (P.took _work.now) }
 {}

@@ -5,11 +5,11 @@ use hl_words::{Realm, Rider};
 /// What a program does with a log: a trait and not a closure, since a closure can't be generic over
 /// the log's brand `L`.
 pub trait Part<R> {
-    ghost use Rattle.std.specs.Prelude.{List, None};
+    ghost use Rattle.std.specs.Prelude.{List};
     ghost use Rattle.std.specs.List.{AllByRecursion};
     ghost use Rattle.hl_words.specs.States.{RiderState};
     ghost use Rattle.hl_domain.specs.Domains.{DomainState};
-    ghost use Rattle.hl_images.specs.Kept.{RiderEnters};
+    ghost use Rattle.hl_memory.specs.Traces.{RiderTraces};
 
     /// The jobs that its bumps store: [`NoJob`](hl_action::NoJob) if it stores none.
     type Job: Task;
@@ -35,6 +35,6 @@ pub trait Part<R> {
         riders: Vec<Rider<L>>,
     ) -> (Self::Out, Vec<Rider<L>>)
         requires wants { wants self log.now riders.items }
-        requires enter { AllByRecursion (RiderEnters log.now.sizes) riders.items }
+        requires enter { AllByRecursion (RiderTraces log.now.sizes) riders.items }
         ensures { leaves self result.0 result.1.items };
 }

@@ -1,10 +1,12 @@
 //! A thread's time in a slot of a log.
-ghost use Rattle.std.specs.Prelude.{◌≡◌, ◌+◌, ◌-◌, ◌/◌, ◌^◌, ◌≤◌, Ok, None, true, false, IfOk, IfErr, MatchResult};
+ghost use Rattle.std.specs.Prelude.{◌≡◌, ◌+◌, ◌-◌, ◌/◌, ◌^◌, ◌≤◌, Ok, true, false, [], ◌∷◌, IfOk, IfErr, MatchResult};
 ghost use Rattle.hl_keeper.specs.Passes.{seen, with_rider, with_tail};
 ghost use Rattle.hl_keeper.specs.Leases.{placed};
 ghost use Rattle.hl_domain.specs.Domains.{with_held, after_news, stays_current, Refreshed};
 ghost use Rattle.hl_domain.specs.Riders.{Allocates};
-ghost use Rattle.hl_images.specs.Kept.{PassEnters, RiderEnters};
+ghost use Rattle.hl_memory.specs.declared.act.Act.TheVariants.{Placed};
+ghost use Rattle.hl_memory.specs.Traces.{PassTraces, RiderTraces};
+ghost use Rattle.hl.specs.Traces.{if_ok, EntersBy, KeepsUpBy, LeavesBy, Meets};
 ghost use Rattle.hl.specs.Sessions.{alone, beside_of, with_pass, Asked, Entered, Left};
 
 mod bell;
@@ -57,7 +59,7 @@ pub struct Session<
 }
 
 impl<'a, R: Wait, L: Realm, F: Task, P: Promise, E: Epochs> Model for Session<'a, R, L, F, P, E> {
-    ghost use Rattle.hl_images.specs.Kept.{PassEnters};
+    ghost use Rattle.hl_memory.specs.Traces.{PassTraces};
     ghost use Rattle.hl.specs.Sessions.{beside_of, SessionState};
 
     ghost Value = { SessionState };
@@ -68,8 +70,8 @@ impl<'a, R: Wait, L: Realm, F: Task, P: Promise, E: Epochs> Model for Session<'a
       beside = beside_of s.beside.bell s.beside.cuts;
     } };
 
-    // Each store of its rider is a write that the rider's calls entered, or one that waits, or a 0 of its sweeps.
-    ghost invariant = { λ s. PassEnters s.log.now.sizes s.pass };
+    // Its rider has a trace: each touch is at an address that the session saw.
+    ghost invariant = { λ s. PassTraces s.log.now.sizes s.pass };
 }
 
 impl<'a, R: Wait, L: Realm, F: Task, P: Promise, E: Epochs + Drop> Session<'a, R, L, F, P, E> {
@@ -81,11 +83,11 @@ impl<'a, R: Wait, L: Realm, F: Task, P: Promise, E: Epochs + Drop> Session<'a, R
         log: &'a Log<L, F, P, E>,
         rider: Rider<L>,
     ) -> Result<Session<'a, R, L, F, P, E>, Refused<Rider<L>>>
-        requires { RiderEnters log.now.sizes rider }
+        requires { RiderTraces log.now.sizes rider }
         ensures met { Entered F log.now rider result }
         ensures log { IfOk result (λ session. session.log ≡ log.now) }
         ensures beside { IfOk result (λ session. session.beside ≡ alone) }
-        ensures back { IfErr result (λ refused. RiderEnters log.now.sizes refused.back) }
+        ensures did { EntersBy log.now rider result }
     {
         Session::enter_beside(rt, log, rider, Beside::alone())
     }
@@ -97,11 +99,11 @@ impl<'a, R: Wait, L: Realm, F: Task, P: Promise, E: Epochs + Drop> Session<'a, R
         rider: Rider<L>,
         beside: Beside<'a>,
     ) -> Result<Session<'a, R, L, F, P, E>, Refused<Rider<L>>>
-        requires { RiderEnters log.now.sizes rider }
+        requires { RiderTraces log.now.sizes rider }
         ensures met { Entered F log.now rider result }
         ensures log { IfOk result (λ session. session.log ≡ log.now) }
         ensures beside { IfOk result (λ session. session.beside ≡ beside_of beside.entry.bell beside.entry.cuts) }
-        ensures back { IfErr result (λ refused. RiderEnters log.now.sizes refused.back) }
+        ensures did { EntersBy log.now rider result }
     {
         match log.enter(rt, rider) {
             Ok(pass) => Ok(Session {
@@ -123,11 +125,11 @@ impl<'a, R: Wait, L: Realm, F: Task, P: Promise, E: Epochs + Drop> Session<'a, R
         slot: u64,
         rider: Rider<L>,
     ) -> Result<Session<'a, R, L, F, P, E>, Refused<Rider<L>>>
-        requires { RiderEnters log.now.sizes rider }
+        requires { RiderTraces log.now.sizes rider }
         ensures met { Asked F log.now rider slot result }
         ensures log { IfOk result (λ session. session.log ≡ log.now) }
         ensures beside { IfOk result (λ session. session.beside ≡ alone) }
-        ensures back { IfErr result (λ refused. RiderEnters log.now.sizes refused.back) }
+        ensures did { EntersBy log.now rider result }
     {
         match log.acquire(rt, slot, rider) {
             Ok(pass) => Ok(Session {
@@ -145,6 +147,7 @@ impl<'a, R: Wait, L: Realm, F: Task, P: Promise, E: Epochs + Drop> Session<'a, R
     /// Faults: `Stranger` if the session saw an offset above the present one; `JournalFull`.
     pub fn refresh(&mut self) -> Result<View, Fault>
         ensures refreshed { Refreshed F self.old.log self.old.pass self.new.pass result }
+        ensures did { Meets [] self.old self.new }
         ensures log { self.new.log ≡ self.old.log }
         ensures beside { self.new.beside ≡ self.old.beside }
     {
@@ -164,6 +167,7 @@ impl<'a, R: Wait, L: Realm, F: Task, P: Promise, E: Epochs + Drop> Session<'a, R
         ensures refreshed { let new = self.new.pass
             in let old = self.old.pass
             in stays_current old new ≡ false → Refreshed F self.old.log (after_news old new) new result }
+        ensures did { KeepsUpBy self.old self.new }
         ensures log { self.new.log ≡ self.old.log }
         ensures beside { self.new.beside ≡ self.old.beside }
     {
@@ -181,6 +185,7 @@ impl<'a, R: Wait, L: Realm, F: Task, P: Promise, E: Epochs + Drop> Session<'a, R
             in MatchResult result
             (λ a. self.new ≡ with_pass (with_held pass.epoch (with_tail (a + n) (seen pass)) pass) self.old)
             (λ _. self.new ≡ with_pass pass self.old) }
+        ensures did { Meets (if_ok (λ a. Placed a n ∷ []) result) self.old self.new }
         ensures above { IfOk result (λ a. (seen self.old.pass).tail ≤ a) }
         ensures within { IfOk result (λ address. address + n ≤ 2 ^ 48) }
         ensures one_page { let page_size = self.old.log.sizes.page_size
@@ -200,6 +205,7 @@ impl<'a, R: Wait, L: Realm, F: Task, P: Promise, E: Epochs + Drop> Session<'a, R
             (λ lease. self.new
             ≡ with_pass (with_held pass.epoch (with_tail lease.end (seen pass)) pass) self.old)
             (λ _. self.new ≡ with_pass pass self.old) }
+        ensures did { Meets (if_ok (λ lease. Placed lease.next n ∷ []) result) self.old self.new }
         ensures piece { IfOk result (λ lease. lease.end ≡ lease.next + n) }
         ensures above { IfOk result (λ lease. (seen self.old.pass).tail ≤ lease.next) }
         ensures one_page { let page_size = self.old.log.sizes.page_size
@@ -213,7 +219,7 @@ impl<'a, R: Wait, L: Realm, F: Task, P: Promise, E: Epochs + Drop> Session<'a, R
     /// Faults, with the session handed back: `JournalFull`.
     pub fn leave(self) -> Result<Rider<L>, Refused<Session<'a, R, L, F, P, E>>>
         ensures met { Left F self.entry result }
-        ensures enters { IfOk result (RiderEnters self.entry.log.sizes) }
+        ensures did { LeavesBy self.entry result }
         ensures back { IfErr result (λ refused. refused.back
             ≡ with_pass (with_rider refused.back.pass.rider self.entry.pass) self.entry) }
     {
@@ -241,7 +247,7 @@ impl<'a, R: Wait, L: Realm, F: Task, P: Promise, E: Epochs + Drop> Session<'a, R
     /// good, and the session's touches never enter the journal.
     pub fn abandon(self) -> Rider<L>
         ensures rider { result ≡ self.entry.pass.rider }
-        ensures enters { PassEnters self.entry.log.sizes self.entry.pass }
+        ensures traces { PassTraces self.entry.log.sizes self.entry.pass }
     {
         let Session {
             rt: _,
@@ -252,9 +258,9 @@ impl<'a, R: Wait, L: Realm, F: Task, P: Promise, E: Epochs + Drop> Session<'a, R
         pass.abandon()
     }
 
-    /// What its type says of it: each store of its rider is a write that the rider's calls entered, or one that waits.
+    /// What its type says of it: its rider has a trace.
     pub fn known(&self)
-        ensures { PassEnters self.now.log.sizes self.now.pass }
+        ensures { PassTraces self.now.log.sizes self.now.pass }
     {
         let _ = &self.pass;
     }

@@ -1,9 +1,9 @@
 //! The threads of a log and its crew, side by side.
-ghost use Rattle.std.specs.Prelude.{◌≡◌, ◌++◌, ◌≤◌, map, length, true, Some, None, is_some, Err, IsOk, IfOk, IfErr, MatchResult};
+ghost use Rattle.std.specs.Prelude.{◌≡◌, ◌++◌, ◌≤◌, map, length, true, Some, is_some, Err, IsOk, IfOk, IfErr, MatchResult};
 ghost use Rattle.std.specs.List.{AllByRecursion};
 ghost use Rattle.hl_model.specs.declared.fault.Fault.TheVariants.{OutOfMemory};
 ghost use Rattle.hl_words.specs.States.{new_riders};
-ghost use Rattle.hl_images.specs.Kept.{RiderEnters};
+ghost use Rattle.hl_memory.specs.Traces.{RiderTraces};
 ghost use Rattle.hl_crew.specs.Riders.{riders_of};
 ghost use Rattle.hl.specs.Closings.{AreLeft, HasServed, HaveWorked, Tells};
 ghost use Rattle.hl.specs.Devices.{device_has};
@@ -80,7 +80,7 @@ impl<R: Threads + Wait + Sync, P: Work<R> + Sync> Shared<'_, R, P> {
                     (riders_of crew) (riders_of result.0) result.2 × (is_some result.1 ≡ is_some device) }
             { self.serve_behind(log, crew, device, &stop) },
             || -> Told<Result<Vec<Worked<L, P::Out>>, AllocError>>
-                requires { AllByRecursion (RiderEnters log.now.sizes) riders.items }
+                requires { AllByRecursion (RiderTraces log.now.sizes) riders.items }
                 ensures { IfOk result.left (λ worked. HaveWorked P.Job log.entry.now
                     (is_some self.entry.now.duty.cut_above) (P.returns self.entry.now.work.now)
                     riders.items worked.items) }
@@ -102,7 +102,7 @@ impl<R: Threads + Wait + Sync, P: Work<R> + Sync> Shared<'_, R, P> {
         riders: Vec<Rider<L>>,
         stop: &Stop,
     ) -> Result<Vec<Worked<L, P::Out>>, AllocError>
-        requires { AllByRecursion (RiderEnters log.now.sizes) riders.items }
+        requires { AllByRecursion (RiderTraces log.now.sizes) riders.items }
         ensures { IfOk result (λ worked. HaveWorked P.Job log.now (is_some self.now.duty.cut_above)
             (P.returns self.now.work.now) riders.items worked.items) }
     {
@@ -114,7 +114,7 @@ impl<R: Threads + Wait + Sync, P: Work<R> + Sync> Shared<'_, R, P> {
             self.rt,
             jobs,
             &|job: (usize, Rider<L>)| -> Worked<L, P::Out>
-                requires { RiderEnters log.now.sizes job.1 }
+                requires { RiderTraces log.now.sizes job.1 }
                 ensures { Tells P.Job log.entry.now beside_crew (is_some self.entry.now.duty.cut_above)
                     (P.returns self.entry.now.work.now job.0) job.1 result.1 result.0 }
             { self.work_one(log, job.1, job.0 as u64, stop) },
@@ -129,7 +129,7 @@ impl<R: Threads + Wait + Sync, P: Work<R> + Sync> Shared<'_, R, P> {
         number: u64,
         stop: &Stop,
     ) -> Worked<L, P::Out>
-        requires { RiderEnters log.now.sizes rider }
+        requires { RiderTraces log.now.sizes rider }
         ensures { Tells P.Job log.now beside_crew (is_some self.now.duty.cut_above)
             (P.returns self.now.work.now number) rider result.1 result.0 }
     {

@@ -6,6 +6,7 @@ ghost use Rattle.hl_crew.specs.Cutting.{EndsTurn};
 ghost use Rattle.hl_crew.specs.Tries.{EndsAction, Tries};
 ghost use Rattle.hl.specs.Helps.{Enters, Helps, RunsOldest};
 ghost use Rattle.hl.specs.Sessions.{KeepsAllButRider};
+ghost use Rattle.hl.specs.Traces.{OnlyMeets};
 
 use super::Session;
 use super::bell::Rung;
@@ -34,6 +35,7 @@ impl<'a, R: Wait, L: Realm, F: Task, P: Promise, E: Epochs + Drop> Session<'a, R
         ensures helped { Helps F self.old.log self.old.beside.cuts F.gives P.keeps result
             self.old.pass self.new.pass }
         ensures steps { IfOk result (λ did. Enters did self.old.pass self.new.pass) }
+        ensures did { OnlyMeets self.old self.new }
         ensures slot { self.new.pass.slot ≡ self.old.pass.slot }
         ensures log { self.new.log ≡ self.old.log }
         ensures beside { self.new.beside ≡ self.old.beside }
@@ -47,6 +49,7 @@ impl<'a, R: Wait, L: Realm, F: Task, P: Promise, E: Epochs + Drop> Session<'a, R
     // Cuts the journal as is due, where no crew does.
     fn cut_as_is_due(&mut self)
         ensures cut { EndsTurn F self.old.log self.old.beside.cuts self.old.pass.rider self.new.pass.rider }
+        ensures did { OnlyMeets self.old self.new }
         ensures kept { KeepsAllButRider self.old self.new }
     {
         cut_if_due(self.rt, self.log, self.pass.rider_mut(), self.beside.cuts);
@@ -56,6 +59,7 @@ impl<'a, R: Wait, L: Realm, F: Task, P: Promise, E: Epochs + Drop> Session<'a, R
     fn run_oldest(&mut self, _rung: Rung) -> Result<bool, Fault>
         ensures ran { RunsOldest F self.old.log F.gives P.keeps result
             self.old.pass.rider self.new.pass.rider }
+        ensures did { OnlyMeets self.old self.new }
         ensures kept { KeepsAllButRider self.old self.new }
     {
         match self.take() {
@@ -73,6 +77,7 @@ impl<'a, R: Wait, L: Realm, F: Task, P: Promise, E: Epochs + Drop> Session<'a, R
             × Tries F self.old.log true (EndsAction F self.old.log ran.origin ran.ticket) answer
             self.old.pass.rider self.new.pass.rider × MatchResult answer
             (λ _. result ≡ Ok true) (λ fault. result ≡ Err fault) }
+        ensures did { OnlyMeets self.old self.new }
         ensures kept { KeepsAllButRider self.old self.new }
     {
         match end_by_tries(self.rt, self.log, self.pass.rider_mut(), true, ran) {

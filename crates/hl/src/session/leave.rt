@@ -1,11 +1,11 @@
 //! A session leaves its slot where others fill the journal.
-ghost use Rattle.std.specs.Prelude.{◌≡◌, ◌&&◌, None, IfOk, IfErr};
+ghost use Rattle.std.specs.Prelude.{◌≡◌, ◌&&◌, IfErr};
 ghost use Rattle.hl_keeper.specs.Passes.{with_rider};
-ghost use Rattle.hl_images.specs.Kept.{RiderEnters};
 ghost use Rattle.hl_crew.specs.Cutting.{MakesRoom};
 ghost use Rattle.hl_crew.specs.Overs.{is_full};
 ghost use Rattle.hl.specs.Leaves.{LeftByTries};
 ghost use Rattle.hl.specs.Sessions.{with_pass, KeepsAllButRider};
+ghost use Rattle.hl.specs.Traces.{LeavesByCalls, OnlyMeets};
 
 use super::Session;
 use crate::refused::Refused;
@@ -26,7 +26,7 @@ impl<'a, R: Wait, L: Realm, F: Task, P: Promise, E: Epochs + Drop> Session<'a, R
         may_cut: bool,
     ) -> Result<Rider<L>, Refused<Session<'a, R, L, F, P, E>>>
         ensures met { LeftByTries F may_cut self.entry result }
-        ensures enters { IfOk result (RiderEnters self.entry.log.sizes) }
+        ensures did { LeavesByCalls self.entry result }
         ensures back { IfErr result (λ refused. refused.back
             ≡ with_pass (with_rider refused.back.pass.rider self.entry.pass) self.entry) }
     {
@@ -52,6 +52,7 @@ impl<'a, R: Wait, L: Realm, F: Task, P: Promise, E: Epochs + Drop> Session<'a, R
     fn make_room(&mut self, may_cut: bool, fault: &Fault) -> bool
         ensures room { MakesRoom F self.old.log result self.old.pass.rider self.new.pass.rider }
         ensures answer { result ≡ (may_cut && is_full fault.now) }
+        ensures did { OnlyMeets self.old self.new }
         ensures kept { KeepsAllButRider self.old self.new }
     {
         make_room(self.rt, self.log, self.pass.rider_mut(), may_cut, fault)

@@ -1,7 +1,8 @@
 //! Waiting for an action.
-ghost use Rattle.std.specs.Prelude.{◌≡◌};
+ghost use Rattle.std.specs.Prelude.{◌≡◌, []};
 ghost use Rattle.hl.specs.Overs.{LooksAtOver, WaitsUntilOver};
 ghost use Rattle.hl.specs.Sessions.{KeepsAllButRider};
+ghost use Rattle.hl.specs.Traces.{Meets, OnlyMeets};
 
 use super::Session;
 use hl_action::{Promise, Task};
@@ -16,6 +17,7 @@ impl<'a, R: Wait, L: Realm, F: Task, P: Promise, E: Epochs + Drop> Session<'a, R
     /// all before it were taken. It takes the lock, and is never refused.
     pub fn is_over(&mut self, ticket: u64) -> bool
         ensures met { LooksAtOver F self.old.log ticket result self.old.pass.rider self.new.pass.rider }
+        ensures did { Meets [] self.old self.new }
         ensures kept { KeepsAllButRider self.old self.new }
     {
         self.log.is_over_by(self.rt, self.pass.rider_mut(), ticket)
@@ -29,6 +31,7 @@ impl<'a, R: Wait, L: Realm, F: Task, P: Promise, E: Epochs + Drop> Session<'a, R
     pub fn wait_until_over(&mut self, ticket: u64) -> Result<(), Fault>
         ensures waits { WaitsUntilOver F self.old.log self.old.beside.cuts F.gives P.keeps ticket result
             self.old.pass self.new.pass }
+        ensures did { OnlyMeets self.old self.new }
         ensures slot { self.new.pass.slot ≡ self.old.pass.slot }
         ensures log { self.new.log ≡ self.old.log }
         ensures beside { self.new.beside ≡ self.old.beside }

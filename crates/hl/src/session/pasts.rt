@@ -1,8 +1,9 @@
 //! What a session's rider did, told to another session. No call here takes the lock.
-ghost use Rattle.std.specs.Prelude.{◌≡◌};
+ghost use Rattle.std.specs.Prelude.{◌≡◌, []};
 ghost use Rattle.hl_words.specs.States.{with_view};
 ghost use Rattle.hl_words.specs.Views.{past_of, told};
 ghost use Rattle.hl.specs.Sessions.{KeepsAllButRider};
+ghost use Rattle.hl.specs.Traces.{Does};
 
 use super::Session;
 use hl_action::{Promise, Task};
@@ -34,6 +35,7 @@ impl<'a, R: Wait, L: Realm, F: Task, P: Promise, E: Epochs + Drop> Session<'a, R
     pub fn tell_past(&mut self, past: Past<L>)
         ensures told { let rider = self.old.pass.rider
             in self.new.pass.rider ≡ with_view (told past rider.view) rider }
+        ensures did { Does [] self.old self.new }
         ensures kept { KeepsAllButRider self.old self.new }
     {
         self.log.tell_past(self.pass.rider_mut(), past);

@@ -1,7 +1,8 @@
 //! A session's rest: its slot is left for a time.
-ghost use Rattle.std.specs.Prelude.{◌≡◌, None};
-ghost use Rattle.hl_images.specs.Kept.{PassEnters, RiderEnters};
+ghost use Rattle.std.specs.Prelude.{◌≡◌};
+ghost use Rattle.hl_memory.specs.Traces.{PassTraces, RiderTraces};
 ghost use Rattle.hl.specs.Rests.{Reenters, Rests, RestsOf};
+ghost use Rattle.hl.specs.Traces.{OnlyMeets, PassMeets};
 
 use super::Session;
 use super::tries::nap;
@@ -31,6 +32,7 @@ impl<'a, R: Wait, L: Realm, F: Task, P: Promise, E: Epochs + Drop> Session<'a, R
     pub fn rest<X, C: FnOnce() -> X>(&mut self, idle: C) -> Result<X, Fault>
         requires { C.IsAlwaysCallable idle }
         ensures rests { Rests F (C.post idle) result self.old self.new }
+        ensures did { OnlyMeets self.old self.new }
         ensures log { self.new.log ≡ self.old.log }
         ensures beside { self.new.beside ≡ self.old.beside }
     {
@@ -41,7 +43,7 @@ impl<'a, R: Wait, L: Realm, F: Task, P: Promise, E: Epochs + Drop> Session<'a, R
             |pass: Pass<L>, idle: C| -> (Pass<L>, Result<X, Fault>)
                 requires { C.IsAlwaysCallable idle }
                 ensures { RestsOf F log.entry.now cuts (C.post idle) result.1 pass result.0
-                    × (PassEnters log.entry.now.sizes pass → PassEnters log.entry.now.sizes result.0) }
+                    × (PassTraces log.entry.now.sizes pass → PassMeets log.entry.now pass.rider result.0) }
             { rest_of(rt, log, cuts, pass, idle) },
         )
     }
@@ -57,7 +59,7 @@ fn rest_of<R: Wait, L: Realm, F: Task, P: Promise, E: Epochs + Drop, X, C: FnOnc
 ) -> (Pass<L>, Result<X, Fault>)
     requires { C.IsAlwaysCallable idle }
     ensures rests { RestsOf F log.now cuts (C.post idle) result.1 pass result.0 }
-    ensures enters { PassEnters log.now.sizes pass → PassEnters log.now.sizes result.0 }
+    ensures did { PassTraces log.now.sizes pass → PassMeets log.now pass.rider result.0 }
 {
     let mut pass = pass;
     cut_if_due(rt, log, pass.rider_mut(), cuts);
@@ -78,7 +80,7 @@ fn enter_again<R: Wait, L: Realm, F: Task, P: Promise, E: Epochs + Drop>(
     rider: Rider<L>,
 ) -> Pass<L>
     ensures again { Reenters F log.now cuts rider result }
-    ensures enters { RiderEnters log.now.sizes rider → PassEnters log.now.sizes result }
+    ensures did { RiderTraces log.now.sizes rider → PassMeets log.now rider result }
 {
     let mut rider = rider;
     for _ in rt.forever() {

@@ -6,6 +6,7 @@ ghost use Rattle.hl_keeper.specs.Passes.{store_fault};
 ghost use Rattle.hl_domain.specs.Words.{HasStored};
 ghost use Rattle.hl.specs.Records.{row_fault, with_loads, AreStored, RefusesStore, StopsAt, Places, Appends};
 ghost use Rattle.hl.specs.Sessions.{with_pass};
+ghost use Rattle.hl.specs.Traces.{acts, loads_from, AppendsBy, Does, OnlyMeets, PlacesBy, Stores, StoresSome};
 
 use super::Session;
 use hl_action::{Promise, Task};
@@ -29,6 +30,7 @@ impl<'a, R: Wait, L: Realm, F: Task, P: Promise, E: Epochs + Drop> Session<'a, R
     /// before stays placed.
     pub fn append(&mut self, words: &[u64]) -> Result<u64, Fault>
         ensures appended { Appends F self.old.log words.now 63 self.old.pass self.new.pass result }
+        ensures did { AppendsBy 63 words.now result self.old self.new }
         ensures within { IfOk result (λ address. address + length words.now ≤ 2 ^ 48) }
         ensures one_page { let page_size = self.old.log.sizes.page_size
             in IfOk result (λ a. a / page_size ≡ (a + length words.now - 1) / page_size) }
@@ -47,6 +49,7 @@ impl<'a, R: Wait, L: Realm, F: Task, P: Promise, E: Epochs + Drop> Session<'a, R
     // The same, once.
     fn place(&mut self, words: &[u64]) -> Result<u64, Fault>
         ensures places { Places F self.old.log words.now self.old.pass self.new.pass result }
+        ensures did { PlacesBy words.now result self.old self.new }
         ensures within { IfOk result (λ address. address + length words.now ≤ 2 ^ 48) }
         ensures one_page { let page_size = self.old.log.sizes.page_size
             in IfOk result (λ a. a / page_size ≡ (a + length words.now - 1) / page_size) }
@@ -69,6 +72,8 @@ impl<'a, R: Wait, L: Realm, F: Task, P: Promise, E: Epochs + Drop> Session<'a, R
         ensures stored { MatchResult result
             (λ _. AreStored self.old.log.sizes address words.now self.old.pass self.new.pass)
             (λ fault. StopsAt F self.old.log address words.now fault self.old.pass self.new.pass) }
+        ensures did { MatchResult result (λ _. Stores address words.now self.old self.new)
+            (λ _. StoresSome address words.now self.old self.new) }
         ensures log { self.new.log ≡ self.old.log }
         ensures beside { self.new.beside ≡ self.old.beside }
     {
@@ -89,6 +94,8 @@ impl<'a, R: Wait, L: Realm, F: Task, P: Promise, E: Epochs + Drop> Session<'a, R
         ensures stored { MatchResult result
             (λ _. AreStored self.old.log.sizes address (word ∷ []) self.old.pass self.new.pass)
             (λ fault. RefusesStore F self.old.log address fault self.old.pass self.new.pass) }
+        ensures did { MatchResult result (λ _. Stores address (word ∷ []) self.old self.new)
+            (λ _. OnlyMeets self.old self.new) }
         ensures log { self.new.log ≡ self.old.log }
         ensures beside { self.new.beside ≡ self.old.beside }
     {
@@ -107,6 +114,8 @@ impl<'a, R: Wait, L: Realm, F: Task, P: Promise, E: Epochs + Drop> Session<'a, R
         ensures stored { MatchResult result
             (λ _. AreStored self.old.log.sizes address (word ∷ []) self.old.pass self.new.pass)
             (λ fault. RefusesStore F self.old.log address fault self.old.pass self.new.pass) }
+        ensures did { MatchResult result (λ _. Stores address (word ∷ []) self.old self.new)
+            (λ _. OnlyMeets self.old self.new) }
         ensures log { self.new.log ≡ self.old.log }
         ensures beside { self.new.beside ≡ self.old.beside }
     {
@@ -127,6 +136,8 @@ impl<'a, R: Wait, L: Realm, F: Task, P: Promise, E: Epochs + Drop> Session<'a, R
             in MatchResult result
             (λ _. self.new ≡ with_pass (with_loads old.log.sizes address words.new old.pass) old)
             (λ _. (self.new ≡ old) × (words.new ≡ words.old)) }
+        ensures did { MatchResult result (λ _. acts self.new ≡ loads_from address words.new (acts self.old))
+            (λ _. Does [] self.old self.new) }
         ensures length { length words.new ≡ length words.old }
     {
         let view = self.view();

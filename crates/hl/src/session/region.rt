@@ -1,8 +1,9 @@
 //! In which region of the log an address is.
-ghost use Rattle.std.specs.Prelude.{◌≡◌, ◌≤◌, IfOk, IfErr};
+ghost use Rattle.std.specs.Prelude.{◌≡◌, ◌≤◌, [], IfOk, IfErr};
 ghost use Rattle.hl_model.specs.declared.fault.Fault.TheVariants.{Beyond as BEYOND};
 ghost use Rattle.hl_keeper.specs.Passes.{seen};
 ghost use Rattle.hl_keeper.specs.Regions.{IsRegion};
+ghost use Rattle.hl.specs.Traces.{Does};
 
 use super::Session;
 use hl_action::{Promise, Task};
@@ -24,6 +25,7 @@ impl<'a, R: Wait, L: Realm, F: Task, P: Promise, E: Epochs + Drop> Session<'a, R
         ensures beyond { let saw = seen self.old.pass
             in IfErr result (λ fault. (fault ≡ BEYOND saw.tail) × (saw.head ≤ a) × (saw.tail ≤ a)
             × (self.new ≡ self.old)) }
+        ensures did { Does [] self.old self.new }
         ensures log { self.new.log ≡ self.old.log }
         ensures beside { self.new.beside ≡ self.old.beside }
     {

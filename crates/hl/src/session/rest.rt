@@ -1,9 +1,10 @@
 //! A rider's time between two sessions (FASTER's `Suspend` and `Resume`).
-ghost use Rattle.std.specs.Prelude.{◌≡◌, None, IfOk, IfErr};
+ghost use Rattle.std.specs.Prelude.{◌≡◌, IfOk, IfErr};
 ghost use Rattle.hl_keeper.specs.Passes.{with_rider};
-ghost use Rattle.hl_images.specs.Kept.{RiderEnters};
-ghost use Rattle.hl.specs.Rests.{Resumed, Suspended};
+ghost use Rattle.hl_memory.specs.Traces.{RiderTraces};
+ghost use Rattle.hl.specs.Rests.{entered_session, left_rider, Resumed, Suspended};
 ghost use Rattle.hl.specs.Sessions.{with_pass};
+ghost use Rattle.hl.specs.Traces.{EntersBy, LeavesBy};
 
 use super::{Beside, Session};
 use crate::log::Log;
@@ -32,8 +33,7 @@ pub struct Resting<
 }
 
 impl<'a, R: Wait, L: Realm, F: Task, P: Promise, E: Epochs> Model for Resting<'a, R, L, F, P, E> {
-    ghost use Rattle.std.specs.Prelude.{None};
-    ghost use Rattle.hl_images.specs.Kept.{RiderEnters};
+    ghost use Rattle.hl_memory.specs.Traces.{RiderTraces};
     ghost use Rattle.hl.specs.Rests.{RestState};
     ghost use Rattle.hl.specs.Sessions.{beside_of};
 
@@ -45,8 +45,8 @@ impl<'a, R: Wait, L: Realm, F: Task, P: Promise, E: Epochs> Model for Resting<'a
       beside = beside_of r.beside.bell r.beside.cuts;
     } };
 
-    // Each store of it is a write that its calls entered, or a 0 of its sweeps.
-    ghost invariant = { λ r. RiderEnters r.log.now.sizes r.rider };
+    // It has a trace.
+    ghost invariant = { λ r. RiderTraces r.log.now.sizes r.rider };
 }
 
 impl<'a, R: Wait, L: Realm, F: Task, P: Promise, E: Epochs + Drop> Session<'a, R, L, F, P, E> {
@@ -56,6 +56,7 @@ impl<'a, R: Wait, L: Realm, F: Task, P: Promise, E: Epochs + Drop> Session<'a, R
     /// Faults, with the session handed back: `JournalFull`.
     pub fn suspend(self) -> Result<Resting<'a, R, L, F, P, E>, Refused<Session<'a, R, L, F, P, E>>>
         ensures met { Suspended F self.entry result }
+        ensures did { LeavesBy self.entry (left_rider result) }
         ensures back { IfErr result (λ refused. refused.back
             ≡ with_pass (with_rider refused.back.pass.rider self.entry.pass) self.entry) }
         ensures log { IfOk result (λ resting. resting.log ≡ self.entry.log) }
@@ -81,6 +82,7 @@ impl<'a, R: Wait, L: Realm, F: Task, P: Promise, E: Epochs + Drop> Resting<'a, R
     /// Faults, with what rests handed back: `JournalFull`, `NoSlot` if each slot is protected.
     pub fn resume(self) -> Result<Session<'a, R, L, F, P, E>, Refused<Resting<'a, R, L, F, P, E>>>
         ensures met { Resumed F self.entry result }
+        ensures did { EntersBy self.entry.log self.entry.rider (entered_session result) }
         ensures log { IfOk result (λ session. session.log ≡ self.entry.log) }
         ensures beside { IfOk result (λ session. session.beside ≡ self.entry.beside) }
         ensures back { IfErr result (λ refused. refused.back
@@ -109,7 +111,7 @@ impl<'a, R: Wait, L: Realm, F: Task, P: Promise, E: Epochs + Drop> Resting<'a, R
     /// Ends the rest without a session. Returns the rider.
     pub fn into_rider(self) -> Rider<L>
         ensures rider { result ≡ self.entry.rider }
-        ensures enters { RiderEnters self.entry.log.sizes result }
+        ensures traces { RiderTraces self.entry.log.sizes result }
     {
         let Resting {
             rt: _,

@@ -1,9 +1,11 @@
 //! What a thread does in its slot as a rider: bumps, takes, dones, cuts, and how long the one list is. The session's own
 //! touches stay, and enter at its next locked call.
-ghost use Rattle.std.specs.Prelude.{◌≡◌, IfErr};
+ghost use Rattle.std.specs.Prelude.{◌≡◌, [], ◌∷◌, IfErr};
 ghost use Rattle.hl_domain.specs.Riders.{Bumps, Cuts, LooksAtSteps, Takes};
 ghost use Rattle.hl_crew.specs.Tries.{EndsAction};
+ghost use Rattle.hl_memory.specs.declared.act.Act.TheVariants.{Met};
 ghost use Rattle.hl.specs.Sessions.{fault_alone, KeepsAllButRider};
+ghost use Rattle.hl.specs.Traces.{Does, Meets};
 
 use super::Session;
 use crate::refused::Refused;
@@ -22,6 +24,7 @@ impl<'a, R: Wait, L: Realm, F: Task, P: Promise, E: Epochs + Drop> Session<'a, R
     pub fn bump(&mut self, ask: Ask<Kept<F, P>>) -> Result<u64, Refused<Ask<Kept<F, P>>>>
         ensures met { Bumps F self.old.log ask fault_alone result self.old.pass.rider self.new.pass.rider }
         ensures back { IfErr result (λ refused. refused.back ≡ ask) }
+        ensures did { Meets [] self.old self.new }
         ensures kept { KeepsAllButRider self.old self.new }
     {
         Ok(self.log.bump(self.rt, self.pass.rider_mut(), ask)?)
@@ -33,6 +36,7 @@ impl<'a, R: Wait, L: Realm, F: Task, P: Promise, E: Epochs + Drop> Session<'a, R
     /// refresh first.
     pub fn take(&mut self) -> Result<Ready<F, P>, Fault>
         ensures met { Takes F self.old.log result self.old.pass.rider self.new.pass.rider }
+        ensures did { Meets [] self.old self.new }
         ensures kept { KeepsAllButRider self.old self.new }
     {
         self.log.take(self.rt, self.pass.rider_mut())
@@ -45,6 +49,7 @@ impl<'a, R: Wait, L: Realm, F: Task, P: Promise, E: Epochs + Drop> Session<'a, R
         ensures met { EndsAction F self.old.log ran.origin ran.ticket (fault_alone result)
             self.old.pass.rider self.new.pass.rider }
         ensures back { IfErr result (λ refused. refused.back ≡ ran) }
+        ensures did { Meets [] self.old self.new }
         ensures kept { KeepsAllButRider self.old self.new }
     {
         Ok(self.log.done(self.rt, self.pass.rider_mut(), ran)?)
@@ -54,6 +59,7 @@ impl<'a, R: Wait, L: Realm, F: Task, P: Promise, E: Epochs + Drop> Session<'a, R
     /// makes room after a `JournalFull`.
     pub fn cut(&mut self) -> u64
         ensures met { Cuts F self.old.log result self.old.pass.rider self.new.pass.rider }
+        ensures did { Meets [] self.old self.new }
         ensures kept { KeepsAllButRider self.old self.new }
     {
         self.log.cut(self.rt, self.pass.rider_mut())
@@ -68,6 +74,7 @@ impl<'a, R: Wait, L: Realm, F: Task, P: Promise, E: Epochs + Drop> Session<'a, R
     /// but no clause can know that.
     pub fn steps(&mut self) -> u64
         ensures met { LooksAtSteps F self.old.log result self.old.pass.rider self.new.pass.rider }
+        ensures did { Does (Met result ∷ []) self.old self.new }
         ensures kept { KeepsAllButRider self.old self.new }
     {
         self.log.steps_by(self.rt, self.pass.rider_mut())

@@ -3,6 +3,7 @@ ghost use Rattle.std.specs.Prelude.{◌≡◌, ◌+◌, ◌<◌, ◌≤◌, leng
 ghost use Rattle.hl_model.specs.declared.fault.Fault.TheVariants.{Size};
 ghost use Rattle.hl_domain.specs.Domains.{Refreshed};
 ghost use Rattle.hl.specs.Rooms.{KeepsUp};
+ghost use Rattle.hl.specs.Traces.{OnlyMeets};
 
 use super::Session;
 use hl_action::{Promise, Task};
@@ -25,6 +26,7 @@ impl<'a, R: Wait, L: Realm, F: Task, P: Promise, E: Epochs + Drop> Session<'a, R
         ensures kept { n ≤ 1 → KeepsUp F self.old.log self.old.pass self.new.pass result }
         ensures refreshed { 1 < n → n ≤ 32 → Refreshed F self.old.log self.old.pass self.new.pass result }
         ensures room { IfOk result (λ _. length self.new.pass.touches + n ≤ 32) }
+        ensures did { OnlyMeets self.old self.new }
         ensures log { self.new.log ≡ self.old.log }
         ensures beside { self.new.beside ≡ self.old.beside }
     {

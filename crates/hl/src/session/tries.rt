@@ -3,6 +3,7 @@ ghost use Rattle.std.specs.Prelude.{◌≡◌, true};
 ghost use Rattle.std.specs.Fn.{CalledAtMut};
 ghost use Rattle.hl.specs.Attempts.{cure_of, Attempts, SessionHelps};
 ghost use Rattle.hl.specs.Helps.{in_vain, Helps};
+ghost use Rattle.hl.specs.Traces.{OnlyMeets};
 
 use super::Session;
 use hl_action::{Promise, Task};
@@ -121,6 +122,7 @@ impl<'a, R: Wait, L: Realm, F: Task, P: Promise, E: Epochs + Drop> Session<'a, R
     pub(crate) fn help_or_nap(&mut self) -> Result<bool, Fault>
         ensures helped { Helps F self.old.log self.old.beside.cuts F.gives P.keeps result
             self.old.pass self.new.pass }
+        ensures did { OnlyMeets self.old self.new }
         ensures slot { self.new.pass.slot ≡ self.old.pass.slot }
         ensures log { self.new.log ≡ self.old.log }
         ensures beside { self.new.beside ≡ self.old.beside }

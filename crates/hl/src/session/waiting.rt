@@ -1,7 +1,8 @@
 //! Waiting for other threads to move on.
-ghost use Rattle.std.specs.Prelude.{◌≡◌, IfOk};
+ghost use Rattle.std.specs.Prelude.{◌≡◌, [], IfOk};
 ghost use Rattle.hl_domain.specs.Riders.{Bares};
 ghost use Rattle.hl.specs.Sessions.{KeepsAllButRider};
+ghost use Rattle.hl.specs.Traces.{Meets, OnlyMeets};
 ghost use Rattle.hl.specs.Waits.{ForAll, LooksAtSafe, Waits, WaitsForAll};
 
 use super::Session;
@@ -16,6 +17,7 @@ impl<'a, R: Wait, L: Realm, F: Task, P: Promise, E: Epochs + Drop> Session<'a, R
     /// left. It takes the lock, and is never refused.
     pub fn safe(&mut self) -> u64
         ensures met { LooksAtSafe F self.old.log result self.old.pass.rider self.new.pass.rider }
+        ensures did { Meets [] self.old self.new }
         ensures kept { KeepsAllButRider self.old self.new }
     {
         let (now, _, _) = self.log.snapshot_by(self.rt, self.pass.rider_mut());
@@ -30,6 +32,7 @@ impl<'a, R: Wait, L: Realm, F: Task, P: Promise, E: Epochs + Drop> Session<'a, R
     pub fn wait(&mut self, ticket: u64) -> Result<u64, Fault>
         ensures waits { Waits F self.old.log self.old.beside.cuts F.gives P.keeps ticket result
             self.old.pass self.new.pass }
+        ensures did { OnlyMeets self.old self.new }
         ensures slot { self.new.pass.slot ≡ self.old.pass.slot }
         ensures log { self.new.log ≡ self.old.log }
         ensures beside { self.new.beside ≡ self.old.beside }
@@ -57,6 +60,7 @@ impl<'a, R: Wait, L: Realm, F: Task, P: Promise, E: Epochs + Drop> Session<'a, R
         ensures waits { WaitsForAll F self.old.log self.old.beside.cuts F.gives P.keeps result
             self.old.pass self.new.pass }
         ensures all { IfOk result (λ _. ForAll self.old.pass.rider self.new.pass.rider) }
+        ensures did { OnlyMeets self.old self.new }
         ensures slot { self.new.pass.slot ≡ self.old.pass.slot }
         ensures log { self.new.log ≡ self.old.log }
         ensures beside { self.new.beside ≡ self.old.beside }
@@ -70,6 +74,7 @@ impl<'a, R: Wait, L: Realm, F: Task, P: Promise, E: Epochs + Drop> Session<'a, R
     // Ends the epoch, and stores nothing. Returns the epoch that ended.
     fn bare(&mut self) -> Result<u64, Fault>
         ensures met { Bares F self.old.log result self.old.pass.rider self.new.pass.rider }
+        ensures did { Meets [] self.old self.new }
         ensures kept { KeepsAllButRider self.old self.new }
     {
         self.log.bare(self.rt, self.pass.rider_mut())

@@ -1,6 +1,9 @@
 //! What a thread does in its slot without the lock: looks, stores, loads, and words changed in one step.
 ghost use Rattle.hl_domain.specs.Words.{HasAdded, HasExchanged, HasLoaded, HasLooked, HasStored};
+ghost use Rattle.std.specs.Prelude.{[], ◌∷◌, ◌+◌, ◌%◌, ◌^◌};
+ghost use Rattle.hl_memory.specs.declared.act.Act.TheVariants.{Stored, Loaded, Changed};
 ghost use Rattle.hl.specs.Sessions.{with_pass};
+ghost use Rattle.hl.specs.Traces.{exchanged, if_ok, Does};
 
 use super::Session;
 use hl_action::{Promise, Task};
@@ -15,7 +18,8 @@ impl<'a, R: Wait, L: Realm, F: Task, P: Promise, E: Epochs + Drop> Session<'a, R
     /// `TouchesFull` if it has 32 touches.
     #[inline(always)]
     pub fn look(&mut self) -> Result<View, Fault>
-        ensures { HasLooked (λ p. with_pass p self.old) self.old.pass self.new.pass self.new result }
+        ensures looked { HasLooked (λ p. with_pass p self.old) self.old.pass self.new.pass self.new result }
+        ensures did { Does [] self.old self.new }
     {
         self.log.look(&mut self.pass)
     }
@@ -26,7 +30,8 @@ impl<'a, R: Wait, L: Realm, F: Task, P: Promise, E: Epochs + Drop> Session<'a, R
     /// if it isn't below the tail that it saw, `TouchesFull` if it has 32 touches.
     #[inline(always)]
     pub fn store(&mut self, a: u64, v: u64) -> Result<(), Fault>
-        ensures { HasStored (λ p. with_pass p self.old) self.old.log.sizes a v self.old.pass self.new result }
+        ensures stored { HasStored (λ p. with_pass p self.old) self.old.log.sizes a v self.old.pass self.new result }
+        ensures did { Does (if_ok (λ _. Stored a v ∷ []) result) self.old self.new }
     {
         self.log.store(&mut self.pass, a, v)
     }
@@ -37,7 +42,8 @@ impl<'a, R: Wait, L: Realm, F: Task, P: Promise, E: Epochs + Drop> Session<'a, R
     /// isn't below the tail that it saw.
     #[inline(always)]
     pub fn load(&mut self, a: u64) -> Result<u64, Fault>
-        ensures { HasLoaded (λ p. with_pass p self.old) self.old.log.sizes a self.old.pass self.new result }
+        ensures loaded { HasLoaded (λ p. with_pass p self.old) self.old.log.sizes a self.old.pass self.new result }
+        ensures did { Does (if_ok (λ v. Loaded a v ∷ []) result) self.old self.new }
     {
         self.log.load(&mut self.pass, a)
     }
@@ -47,8 +53,10 @@ impl<'a, R: Wait, L: Realm, F: Task, P: Promise, E: Epochs + Drop> Session<'a, R
     ///
     /// Faults: those of [`store`](Session::store); then nothing is loaded.
     pub fn fetch_add(&mut self, a: u64, more: u64) -> Result<u64, Fault>
-        ensures { HasAdded (λ p. with_pass p self.old) self.old.log.sizes a more
+        ensures added { HasAdded (λ p. with_pass p self.old) self.old.log.sizes a more
             self.old.pass self.new result }
+        ensures did { Does (if_ok (λ found. Changed a found ((found + more) % 2 ^ 64) ∷ []) result)
+            self.old self.new }
     {
         self.log.fetch_add(&mut self.pass, a, more)
     }
@@ -63,8 +71,9 @@ impl<'a, R: Wait, L: Realm, F: Task, P: Promise, E: Epochs + Drop> Session<'a, R
         old: u64,
         new: u64,
     ) -> Result<Result<u64, u64>, Fault>
-        ensures { HasExchanged (λ p. with_pass p self.old) self.old.log.sizes a old new self.old.pass self.new
-            result }
+        ensures exchanged { HasExchanged (λ p. with_pass p self.old) self.old.log.sizes a old new
+            self.old.pass self.new result }
+        ensures did { Does (if_ok (exchanged a new) result) self.old self.new }
     {
         self.log.compare_exchange(&mut self.pass, a, old, new)
     }

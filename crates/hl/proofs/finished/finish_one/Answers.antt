@@ -1,6 +1,6 @@
-use Rattle.std.proofs.Common.{rules, ◌≡◌, ◌∙◌, None, ap, inr, subst}
+use Rattle.std.proofs.Common.{rules, ◌≡◌, ◌∙◌, ap, inr, subst}
 use Rattle.hl_domain.specs.Domains.{DomainState}
-use Rattle.hl_images.specs.Kept.{PassEnters, RiderEnters}
+use Rattle.hl_memory.specs.Traces.{PassTraces, RiderTraces}
 use Rattle.hl.specs.Sessions.{SessionState}
 use Rattle.hl.proofs.finished.finish_one.Goals as goal
 
@@ -17,7 +17,9 @@ returns-in-Ok-leave_by_tries g c =
       ran = search rules;
       log_stays = same;
       met = search rules;
-      enters = subst (λ (l : DomainState). RiderEnters l.sizes c.in-Ok-leave_by_tries.rider) same c.in-Ok-leave_by_tries.ensures.enters;
+      came = c.in-Ok.ensures.did;
+      went = c.in-Ok-leave_by_tries.ensures.did;
+      traces = subst (λ (l : DomainState). RiderTraces l.sizes c.in-Ok-leave_by_tries.rider) same c.in-Ok-leave_by_tries.ensures.did.2.0;
     }
 
 -- it entered and ran, and its leave was refused
@@ -39,6 +41,8 @@ returns-in-Err-leave_by_tries g c =
         ran = search rules;
         log_stays = same;
         met = search rules;
-        enters = subst (λ (l : DomainState). PassEnters l.sizes back.pass) at c.abandon.ensures.enters;
+        came = c.in-Ok.ensures.did;
+        went = c.in-Err-leave_by_tries.ensures.did;
+        traces = subst (λ (l : DomainState). PassTraces l.sizes back.pass) at c.abandon.ensures.traces;
       },
     )

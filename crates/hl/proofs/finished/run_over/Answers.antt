@@ -1,6 +1,6 @@
-use Rattle.std.proofs.Common.{rules, arith, ◌≡◌, ◌+◌, false, true, None, length, ap, sym, ◌∙◌, subst}
-use Rattle.hl_images.specs.Kept.{RiderEnters}
-use Rattle.hl_images.proofs.KeptLaws.{riders_stay_entered}
+use Rattle.std.proofs.Common.{rules, arith, ◌≡◌, ◌+◌, false, true, length, ap, sym, ◌∙◌, subst}
+use Rattle.hl_memory.specs.Traces.{RiderTraces}
+use Rattle.hl_memory.proofs.TraceLaws.{new_traces}
 use Rattle.hl_words.specs.States.{new_riders}
 use Rattle.hl_crew.specs.Limited.{duty_cuts}
 use Rattle.hl.proofs.OutLaws.{all_new}
@@ -38,7 +38,7 @@ pub finish_log-requires-clause-enters : goal.finish_log-requires-clause-enters
 finish_log-requires-clause-enters g c κs within =
     let sizes = c.in-Ok.opened.0.sizes in
     let last = (last_new c.args.opening.riders c.pop.new.self.items c.in-Some.last (sym (c.in-Ok.ensures.riders ∙ ap new_riders c.requires.sizes.1) ∙ c.in-Some.ensures.items)).2 in
-    subst (RiderEnters sizes) (sym last) ((riders_stay_entered sizes).new _)
+    subst (RiderTraces sizes) (sym last) (new_traces sizes _)
 
 pub returns : goal.returns
 returns g c =

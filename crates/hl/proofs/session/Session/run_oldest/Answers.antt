@@ -1,6 +1,7 @@
 use Rattle.std.proofs.Common.{rules, ap, inl}
 use Rattle.hl.specs.Sessions.{SessionState}
 use Rattle.hl.proofs.HelpLaws.{runs_it}
+use Rattle.hl.proofs.ActLaws.{meets_then, meets_one}
 use Rattle.hl.proofs.session.Session.run_oldest.Goals as goal
 
 pub returns-in-Ok-clause-ran : goal.returns-in-Ok-clause-ran
@@ -17,4 +18,7 @@ returns-in-Ok-clause-ran g c =
     }) ends.1 ends.2
 
 pub returns-in_default : goal.returns-in_default
-returns-in_default g c = record { ran = inl (c.in-Err.ensures.met, search rules); kept = c.in-Err.ensures.kept }
+returns-in_default g c = record { ran = inl (c.in-Err.ensures.met, search rules); did = meets_one c.args.self.now c.take.new.self c.in-Err.ensures.did; kept = c.in-Err.ensures.kept }
+
+pub returns-in-Ok-clause-did : goal.returns-in-Ok-clause-did
+returns-in-Ok-clause-did g c = meets_then c.args.self.now c.take.new.self c.end.new.self (meets_one c.args.self.now c.take.new.self c.in-Ok.ensures.did) c.end.ensures.did

@@ -1,17 +1,19 @@
 use Rattle.std.proofs.Common.{sym, subst}
-use Rattle.hl_images.specs.Kept.{PassEnters}
 use Rattle.hl_keeper.specs.Passes.{with_rider}
-use Rattle.hl.proofs.EnterLaws.{due, quiet, released}
+use Rattle.hl.specs.Traces.{PassMeets}
+use Rattle.hl.proofs.ActLaws.{due, one_met, quiet, rested, then_met}
 use Rattle.hl.proofs.session.pause.rest_of.Goals as goal
 
 -- it left, once the journal was cut as is due, and entered again
-pub returns-in-Ok-clause-enters : goal.returns-in-Ok-clause-enters
-returns-in-Ok-clause-enters g c = λ h.
+pub returns-in-Ok-clause-did : goal.returns-in-Ok-clause-did
+returns-in-Ok-clause-did g c = λ h.
     let cut = due g.row.F.Denot c.args.log.now c.args.cuts c.args.pass _ (rw c.rider_mut.ensures.value at c.cut_if_due.ensures) h in
-    c.enter_again.ensures.enters (released g.row.F.Denot c.args.log.now (with_rider _ c.args.pass) c.in-Ok.rider c.in-Ok.ensures.met cut)
+    rested g.row.F.Denot c.args.log.now c.args.pass.rider (with_rider _ c.args.pass) c.in-Ok.rider c.enter_again.result cut c.in-Ok.ensures.met c.enter_again.ensures.did
 
 -- it couldn't leave
-pub returns-in-Err-clause-enters : goal.returns-in-Err-clause-enters
-returns-in-Err-clause-enters g c = λ h.
+pub returns-in-Err-clause-did : goal.returns-in-Err-clause-did
+returns-in-Err-clause-did g c = λ h.
     let cut = due g.row.F.Denot c.args.log.now c.args.cuts c.args.pass _ (rw c.rider_mut.ensures.value at c.cut_if_due.ensures) h in
-    subst (PassEnters c.args.log.now.sizes) (sym c.in-Err.ensures.refused) (quiet g.row.F.Denot c.args.log.now (with_rider _ c.args.pass) c.in-Err.pass.rider c.in-Err.ensures.met cut)
+    let p = with_rider _ c.args.pass in
+    subst (PassMeets c.args.log.now c.args.pass.rider) (sym c.in-Err.ensures.refused)
+    (then_met g.row.F.Denot c.args.log.now c.args.pass.rider p (with_rider c.in-Err.pass.rider p) cut (λ m. one_met g.row.F.Denot c.args.log.now p.rider (with_rider c.in-Err.pass.rider p) (quiet g.row.F.Denot c.args.log.now p c.in-Err.pass.rider c.in-Err.ensures.met m)))

@@ -1,10 +1,12 @@
 use Rattle.std.proofs.Common.{rules, arith, ◌≡◌, ◌<◌, ◌++◌, map, length, refl, ◌∙◌}
-use Rattle.std.specs.Prelude.{None, is_some}
+use Rattle.std.specs.Prelude.{is_some}
 use Rattle.std.specs.List.{AllByRecursion}
 use Rattle.std.proofs.lemmas.List.{length-map}
 use Rattle.hl_images.specs.Kept.{RiderEnters}
 use Rattle.hl_images.specs.Sweeps.{StoresSweep}
 use Rattle.hl_images.proofs.KeptLaws.{riders_stay_entered}
+use Rattle.hl_memory.specs.Traces.{RiderTraces}
+use Rattle.hl_memory.proofs.TraceLaws.{new_traces}
 use Rattle.hl_crew.specs.Riders.{FlushesNone, MakesCrewSteps, RidersStay, riders_of}
 use Rattle.hl.specs.Devices.{device_has}
 use Rattle.hl.specs.Closings.{rider_at, AreReturned, CountReturned, FlushesTaken}
@@ -15,8 +17,8 @@ use Rattle.hl.proofs.shared.Shared.run_all.Goals as goal
 pub join-crew-requires-after_bounds : goal.join-crew-requires-after_bounds
 join-crew-requires-after_bounds g c κs within =
     let sizes = c.args.log.now.sizes in
-    let fresh : AllByRecursion (RiderEnters sizes) c.take_from.new.riders.items =
-    threads_given (RiderEnters sizes) (riders_stay_entered sizes).new (length c.args.riders.items) c.args.riders.items c.take_from.new.riders.items (riders_of c.in-Some.crew) c.requires.new c.in-Some.ensures.taken in
+    let fresh : AllByRecursion (RiderTraces sizes) c.take_from.new.riders.items =
+    threads_given (RiderTraces sizes) (new_traces sizes) (length c.args.riders.items) c.args.riders.items c.take_from.new.riders.items (riders_of c.in-Some.crew) c.requires.new c.in-Some.ensures.taken in
     ((c.requires.duty, search rules), (fresh, search rules))
 
 -- a log with four riders has those of a crew

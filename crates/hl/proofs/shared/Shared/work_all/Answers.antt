@@ -1,7 +1,7 @@
 use Rattle.std.proofs.Common.{rules, arith, ◌≡◌, ◌<◌, map, length, slice_index_or, ap, sym, ◌∙◌, subst, Some, option_map}
-use Rattle.std.specs.Prelude.{None, is_some}
+use Rattle.std.specs.Prelude.{is_some}
 use Rattle.std.specs.Vec.Iter.{into_iter_items}
-use Rattle.hl_images.specs.Kept.{RiderEnters}
+use Rattle.hl_memory.specs.Traces.{RiderTraces}
 use Rattle.hl.proofs.OutLaws.{job_holds, work_returned, read_at}
 use Rattle.hl.proofs.shared.Shared.work_all.Goals as goal
 
@@ -15,7 +15,7 @@ map_vec-requires-after_bounds g c κs within =
     let all = (c.into_iter.ensures.runs source.0 source.0.seen).4 whole in
     let same : c.args.riders.items ≡ map (λ job. job.1) c.in_ok-jobs.jobs.items =
     sym from ∙ sym all ∙ source.2.0.1 ∙ ap (map (λ job. job.1)) (sym run.3.0) in
-    λ i job inside is. (job_holds (RiderEnters c.args.log.now.sizes) c.in_ok-jobs.jobs.items c.args.riders.items same c.requires i job inside is, search rules)
+    λ i job inside is. (job_holds (RiderTraces c.args.log.now.sizes) c.in_ok-jobs.jobs.items c.args.riders.items same c.requires i job inside is, search rules)
 
 pub returns : goal.returns
 returns g c =
