@@ -1,4 +1,6 @@
-//! What a rider does, by address.
+//! What a rider does, by address, and what that leaves there.
+ghost use Rattle.std.specs.Prelude.{◌≡◌};
+ghost use Rattle.hl_memory.specs.OneTrace.{leaves_at};
 
 /// What a rider did, as whoever uses a log tells it: by addresses and numbers alone.
 pub enum Act {
@@ -27,4 +29,23 @@ pub enum Act {
     Met {
         steps: u64,
     },
+}
+
+impl Act {
+    /// What a word at an address is after this act, if it was `word` before: what the act stored at that very address, or
+    /// else `word`. So whoever keeps a list of acts computes by this what each load should find, and what memory and device
+    /// should hold: one after another, the earliest first, from 0 on.
+    pub fn leaves(&self, address: u64, word: u64) -> u64
+        ensures { result ≡ leaves_at address self.now word }
+    {
+        match self {
+            Act::Stored { address: at, value } if *at == address => *value,
+            Act::Changed {
+                address: at,
+                found: _,
+                value,
+            } if *at == address => *value,
+            _ => word,
+        }
+    }
 }
