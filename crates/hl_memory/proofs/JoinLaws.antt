@@ -1,8 +1,8 @@
--- The acts of the first riders of an order, put into one trace.
-use Rattle.std.proofs.Common.{◌≡◌, ◌≢◌, ℕ, ◌+◌, ◌<◌, ◌≤◌, ◌==◌, ◌⊎◌, ltb, Bool, List, [], ◌∷◌, ◌++◌, length, refl, ap, sym, ◌∙◌, inl, inr, ⊎_elim, subst, arith, append_assoc, length-append}
+-- The acts of those riders of an order that are threads, put into one trace.
+use Rattle.std.proofs.Common.{◌≡◌, ◌≢◌, ℕ, ◌+◌, ◌<◌, ◌≤◌, ◌==◌, ◌⊎◌, Bool, true, false, List, [], ◌∷◌, ◌++◌, length, refl, ap, sym, ◌∙◌, inl, inr, ⊎_elim, subst, arith, append_assoc, length-append}
 use Rattle.std.specs.Prelude.{if◌then◌else◌}
 use Rattle.std.specs.List.{AllByRecursion as Every}
-use Rattle.std.proofs.lemmas.Bool.{cases_eq, cases_lt, eq-eqb, ne_eqb, le-ltb, lt-ltb}
+use Rattle.std.proofs.lemmas.Bool.{cases_eq, eq-eqb, ne_eqb}
 use Rattle.std.proofs.lemmas.List.{append-nil}
 use Rattle.hl_model.specs.declared.step.Step.{Step}
 use Rattle.hl_model.specs.declared.step.Step.TheVariants.{Allocate}
@@ -51,9 +51,17 @@ every_tagged : (P : Act → Type 0) (i : ℕ) (xs : List Act) → Every P xs →
 every_tagged P i [] h = tt
 every_tagged P i (x ∷ xs) h = (h.0, every_tagged P i xs h.1)
 
-theirs_tagged : (i count : ℕ) (xs : List Act) → i < count → Every (λ (t : ActBy). t.thread < count) (tagged i xs)
-theirs_tagged i count [] less = tt
-theirs_tagged i count (x ∷ xs) less = (less, theirs_tagged i count xs less)
+theirs_tagged : (is_thread : ℕ → Bool) (i : ℕ) (xs : List Act) → is_thread i ≡ true → Every (λ (t : ActBy). is_thread t.thread ≡ true) (tagged i xs)
+theirs_tagged is_thread i [] own = tt
+theirs_tagged is_thread i (x ∷ xs) own = (own, theirs_tagged is_thread i xs own)
+
+-- it is one of the two, and not both
+pub either : (b : Bool) → (b ≡ true) ⊎ (b ≡ false)
+either true = inl refl
+either false = inr refl
+
+pub not_both : {b : Bool} → b ≡ true → b ≡ false → ⊥
+not_both is is_not = absurd (let contrary : true ≡ false = sym is ∙ is_not in cc)
 
 -- the calls that each rider made before a touch, of these
 abbrev pub dropped : TouchBy → (ℕ → List Entry) → ℕ → List Entry
@@ -79,35 +87,40 @@ higher m n le (Loaded a v) h = tt
 higher m n le (Changed a f v) h = tt
 higher m n le (Met k) h = tt
 
-module _ (sizes : Sizes) (count : ℕ) where
-  -- the acts of one touch, if its rider is among the first
+-- the tail is never lower behind more steps
+pub tail_more : (sizes : Sizes) → 0 < sizes.page_size → (A steps : List Step) → tail sizes A ≤ tail sizes (A ++ steps)
+tail_more sizes page_some A [] = omega (arith, ap (tail sizes) (append-nil A))
+tail_more sizes page_some A (s ∷ steps) = omega (arith, tail-grows sizes A s page_some, tail_more sizes page_some (A ++ s ∷ []) steps, ap (tail sizes) (append_assoc A (s ∷ []) steps))
+
+module _ (sizes : Sizes) (is_thread : ℕ → Bool) where
+  -- the acts of one touch, if its rider is a thread
   abbrev pub shown : TouchBy → (ℕ → List Entry) → List ActBy
-  shown t calls = if ltb t.rider count then tagged t.rider (told_as sizes t.touch (calls t.rider)) else []
+  shown t calls = if is_thread t.rider then tagged t.rider (told_as sizes t.touch (calls t.rider)) else []
 
   -- those of an order of touches by address
   abbrev pub joined : List TouchBy → (ℕ → List Entry) → List ActBy
   joined [] calls = []
   joined (t ∷ b) calls = shown t calls ++ joined b (dropped t calls)
 
-  pub shown_low : (t : TouchBy) (calls : ℕ → List Entry) (rest : List ActBy) → t.rider < count → shown t calls ++ rest ≡ tagged t.rider (told_as sizes t.touch (calls t.rider)) ++ rest
-  shown_low t calls rest less = ap (λ (b : Bool). (if b then tagged t.rider (told_as sizes t.touch (calls t.rider)) else []) ++ rest) (lt-ltb t.rider count less)
+  pub shown_low : (t : TouchBy) (calls : ℕ → List Entry) (rest : List ActBy) → is_thread t.rider ≡ true → shown t calls ++ rest ≡ tagged t.rider (told_as sizes t.touch (calls t.rider)) ++ rest
+  shown_low t calls rest less = ap (λ (b : Bool). (if b then tagged t.rider (told_as sizes t.touch (calls t.rider)) else []) ++ rest) less
 
-  pub shown_high : (t : TouchBy) (calls : ℕ → List Entry) (rest : List ActBy) → count ≤ t.rider → shown t calls ++ rest ≡ rest
-  shown_high t calls rest far = ap (λ (b : Bool). (if b then tagged t.rider (told_as sizes t.touch (calls t.rider)) else []) ++ rest) (le-ltb t.rider count far)
+  pub shown_high : (t : TouchBy) (calls : ℕ → List Entry) (rest : List ActBy) → is_thread t.rider ≡ false → shown t calls ++ rest ≡ rest
+  shown_high t calls rest far = ap (λ (b : Bool). (if b then tagged t.rider (told_as sizes t.touch (calls t.rider)) else []) ++ rest) far
 
   -- by whom they are
-  pub joined_theirs : (b : List TouchBy) (calls : ℕ → List Entry) → Every (λ (t : ActBy). t.thread < count) (joined b calls)
+  pub joined_theirs : (b : List TouchBy) (calls : ℕ → List Entry) → Every (λ (t : ActBy). is_thread t.thread ≡ true) (joined b calls)
   joined_theirs [] calls = tt
   joined_theirs (t ∷ b) calls =
-      let P = λ (x : ActBy). x.thread < count in
+      let P = λ (x : ActBy). is_thread x.thread ≡ true in
       let rest = joined_theirs b (dropped t calls) in
       ⊎_elim
-      (λ (low : t.rider < count). subst (Every P) (sym (shown_low t calls (joined b (dropped t calls)) low)) (every_append P (tagged t.rider (told_as sizes t.touch (calls t.rider))) (joined b (dropped t calls)) (theirs_tagged t.rider count (told_as sizes t.touch (calls t.rider)) low) rest))
-      (λ (far : count ≤ t.rider). subst (Every P) (sym (shown_high t calls (joined b (dropped t calls)) far)) rest)
-      (cases_lt t.rider count)
+      (λ (low : is_thread t.rider ≡ true). subst (Every P) (sym (shown_low t calls (joined b (dropped t calls)) low)) (every_append P (tagged t.rider (told_as sizes t.touch (calls t.rider))) (joined b (dropped t calls)) (theirs_tagged is_thread t.rider (told_as sizes t.touch (calls t.rider)) low) rest))
+      (λ (far : is_thread t.rider ≡ false). subst (Every P) (sym (shown_high t calls (joined b (dropped t calls)) far)) rest)
+      (either (is_thread t.rider))
 
-  -- the acts of each of the first riders
-  pub joined_each : (i : ℕ) → i < count → (b : List TouchBy) (calls : ℕ → List Entry) → acts_by i (joined b calls) ≡ acts_of sizes (touches_of i b) (calls i)
+  -- the acts of each thread
+  pub joined_each : (i : ℕ) → is_thread i ≡ true → (b : List TouchBy) (calls : ℕ → List Entry) → acts_by i (joined b calls) ≡ acts_of sizes (touches_of i b) (calls i)
   joined_each i less [] calls = refl
   joined_each i less (t ∷ b) calls = let before = joined_each i less b (dropped t calls) in ⊎_elim (own before) (other before) (cases_eq i t.rider)
     where
@@ -116,7 +129,7 @@ module _ (sizes : Sizes) (count : ℕ) where
 
       own : acts_by i (joined b (dropped t calls)) ≡ acts_of sizes (touches_of i b) (dropped t calls i) → i ≡ t.rider → acts_by i (joined (t ∷ b) calls) ≡ acts_of sizes (touches_of i (t ∷ b)) (calls i)
       own before same =
-          ap (acts_by i) (shown_low t calls rest (omega (arith, same, less)))
+          ap (acts_by i) (shown_low t calls rest (ap is_thread (sym same) ∙ less))
           ∙ ap (λ (k : ℕ). acts_by i (tagged k (told_as sizes t.touch (calls k)) ++ rest)) (sym same)
           ∙ own_tagged i (told_as sizes t.touch (calls i)) rest
           ∙ ap (λ (l : List Act). told_as sizes t.touch (calls i) ++ l) (before ∙ ap (acts_of sizes (touches_of i b)) (own_dropped t calls i same))
@@ -125,9 +138,9 @@ module _ (sizes : Sizes) (count : ℕ) where
       skipped : i ≢ t.rider → acts_by i (shown t calls ++ rest) ≡ acts_by i rest
       skipped apart =
           ⊎_elim
-          (λ (low : t.rider < count). ap (acts_by i) (shown_low t calls rest low) ∙ other_tagged i t.rider (told_as sizes t.touch (calls t.rider)) rest (λ e. apart (sym e)))
-          (λ (far : count ≤ t.rider). ap (acts_by i) (shown_high t calls rest far))
-          (cases_lt t.rider count)
+          (λ (low : is_thread t.rider ≡ true). ap (acts_by i) (shown_low t calls rest low) ∙ other_tagged i t.rider (told_as sizes t.touch (calls t.rider)) rest (λ e. apart (sym e)))
+          (λ (far : is_thread t.rider ≡ false). ap (acts_by i) (shown_high t calls rest far))
+          (either (is_thread t.rider))
 
       other : acts_by i (joined b (dropped t calls)) ≡ acts_of sizes (touches_of i b) (dropped t calls i) → i ≢ t.rider → acts_by i (joined (t ∷ b) calls) ≡ acts_of sizes (touches_of i (t ∷ b)) (calls i)
       other before apart = skipped apart ∙ before ∙ ap (acts_of sizes (touches_of i b)) (other_dropped t calls i apart) ∙ sym (ap (λ (l : List Touch). acts_of sizes l (calls i)) (other_touch t b i apart))
@@ -155,52 +168,52 @@ module _ (sizes : Sizes) (count : ℕ) where
     shown_leaves i (Looked u x) calls rest w e = e
     shown_leaves i (WasTold m n) calls rest w e = e
 
-    -- nobody but the first riders stores at the address
-    abbrev pub OnlyFirst : List TouchBy → Type 0
-    OnlyFirst b = (front : List TouchBy) (i : ℕ) (act : Touch) (base : List TouchBy) (v : ℕ) → b ≡ front ++ by_rider i act ∷ base → IsPut act a v → i < count
+    -- nobody but threads stores at the address
+    abbrev pub OnlyThreads : List TouchBy → Type 0
+    OnlyThreads b = (front : List TouchBy) (i : ℕ) (act : Touch) (base : List TouchBy) (v : ℕ) → b ≡ front ++ by_rider i act ∷ base → IsPut act a v → is_thread i ≡ true
 
-    fewer : (t : TouchBy) (b : List TouchBy) → OnlyFirst (t ∷ b) → OnlyFirst b
+    fewer : (t : TouchBy) (b : List TouchBy) → OnlyThreads (t ∷ b) → OnlyThreads b
     fewer t b only front i act base v is puts = only (t ∷ front) i act base v (ap (λ (l : List TouchBy). t ∷ l) is) puts
 
     -- then their acts leave there what all do
-    pub joined_leaves : (b : List TouchBy) (calls : ℕ → List Entry) → OnlyFirst b → left_at a (joined b calls) ≡ held a b
+    pub joined_leaves : (b : List TouchBy) (calls : ℕ → List Entry) → OnlyThreads b → left_at a (joined b calls) ≡ held a b
     joined_leaves [] calls only = refl
     joined_leaves (t ∷ b) calls only =
         let rest = joined b (dropped t calls) in
         let before = joined_leaves b (dropped t calls) (fewer t b only) in
         ⊎_elim
-        (λ (low : t.rider < count). ap (left_at a) (shown_low t calls rest low) ∙ shown_leaves t.rider t.touch (calls t.rider) rest (held a b) before)
-        (λ (far : count ≤ t.rider).
+        (λ (low : is_thread t.rider ≡ true). ap (left_at a) (shown_low t calls rest low) ∙ shown_leaves t.rider t.touch (calls t.rider) rest (held a b) before)
+        (λ (far : is_thread t.rider ≡ false).
         ap (left_at a) (shown_high t calls rest far) ∙ before
         ∙ ⊎_elim
-        (λ (p : Puts a t.touch). let is = put_is a t.touch p in absurd (omega (arith, far, only [] t.rider t.touch b is.0 refl is.1)))
+        (λ (p : Puts a t.touch). let is = put_is a t.touch p in absurd (not_both (only [] t.rider t.touch b is.0 refl is.1) far))
         (λ (p : Passes a t.touch). sym (p.leaves (held a b)))
         (puts_or_passes a t.touch))
-        (cases_lt t.rider count)
+        (either (is_thread t.rider))
 
-    -- what stands in front, where none of the first riders stores there
-    abbrev pub NoneOfFirst : List TouchBy → Type 0
-    NoneOfFirst b = (front : List TouchBy) (i : ℕ) (act : Touch) (base : List TouchBy) (v : ℕ) → b ≡ front ++ by_rider i act ∷ base → IsPut act a v → count ≤ i
+    -- what stands in front, where no thread stores there
+    abbrev pub NoneByThreads : List TouchBy → Type 0
+    NoneByThreads b = (front : List TouchBy) (i : ℕ) (act : Touch) (base : List TouchBy) (v : ℕ) → b ≡ front ++ by_rider i act ∷ base → IsPut act a v → is_thread i ≡ false
 
     abbrev pub all_dropped : List TouchBy → (ℕ → List Entry) → ℕ → List Entry
     all_dropped [] calls = calls
     all_dropped (t ∷ front) calls = all_dropped front (dropped t calls)
 
-    pub joined_behind : (newer before : List TouchBy) (calls : ℕ → List Entry) → NoneOfFirst newer → left_at a (joined (newer ++ before) calls) ≡ left_at a (joined before (all_dropped newer calls))
+    pub joined_behind : (newer before : List TouchBy) (calls : ℕ → List Entry) → NoneByThreads newer → left_at a (joined (newer ++ before) calls) ≡ left_at a (joined before (all_dropped newer calls))
     joined_behind [] before calls none = refl
     joined_behind (t ∷ newer) before calls none =
         let rest = joined (newer ++ before) (dropped t calls) in
         let sooner = joined_behind newer before (dropped t calls) (λ front i act base v is puts. none (t ∷ front) i act base v (ap (λ (l : List TouchBy). t ∷ l) is) puts) in
         ⊎_elim
-        (λ (low : t.rider < count).
+        (λ (low : is_thread t.rider ≡ true).
         ap (left_at a) (shown_low t calls rest low) ∙ shown_leaves t.rider t.touch (calls t.rider) rest (left_at a rest) refl
         ∙ ⊎_elim
-        (λ (p : Puts a t.touch). let is = put_is a t.touch p in absurd (omega (arith, low, none [] t.rider t.touch newer is.0 refl is.1)))
+        (λ (p : Puts a t.touch). let is = put_is a t.touch p in absurd (not_both low (none [] t.rider t.touch newer is.0 refl is.1)))
         (λ (p : Passes a t.touch). p.leaves (left_at a rest))
         (puts_or_passes a t.touch)
         ∙ sooner)
-        (λ (far : count ≤ t.rider). ap (left_at a) (shown_high t calls rest far) ∙ sooner)
-        (cases_lt t.rider count)
+        (λ (far : is_thread t.rider ≡ false). ap (left_at a) (shown_high t calls rest far) ∙ sooner)
+        (either (is_thread t.rider))
 
   -- no call among these touches left more than n steps
   abbrev pub CalledUpTo : ℕ → Touch → Type 0
@@ -254,11 +267,11 @@ module _ (sizes : Sizes) (count : ℕ) where
       let P = λ (x : ActBy). LeftUpTo n x.act in
       let rest = joined_up_to n b (dropped t calls) h.1 in
       ⊎_elim
-      (λ (low : t.rider < count).
+      (λ (low : is_thread t.rider ≡ true).
       subst (Every P) (sym (shown_low t calls (joined b (dropped t calls)) low))
       (every_append P (tagged t.rider (told_as sizes t.touch (calls t.rider))) (joined b (dropped t calls)) (every_tagged (LeftUpTo n) t.rider (told_as sizes t.touch (calls t.rider)) (told_up_to n t.touch (calls t.rider) h.0)) rest))
-      (λ (far : count ≤ t.rider). subst (Every P) (sym (shown_high t calls (joined b (dropped t calls)) far)) rest)
-      (cases_lt t.rider count)
+      (λ (far : is_thread t.rider ≡ false). subst (Every P) (sym (shown_high t calls (joined b (dropped t calls)) far)) rest)
+      (either (is_thread t.rider))
 
   -- a step places nothing, or one record, which ends at the tail behind it
   placed_kinds : (A : List Step) (s : Step) → (placed_by sizes A s ≡ [])
@@ -301,16 +314,12 @@ module _ (sizes : Sizes) (count : ℕ) where
         subst (Every (EndsBelow (tail sizes (A ++ s ∷ [])))) (sym p.1) (omega (arith, p.2), tt))
         (placed_kinds A s)
 
-    tail_more : (A steps : List Step) → tail sizes A ≤ tail sizes (A ++ steps)
-    tail_more A [] = omega (arith, ap (tail sizes) (append-nil A))
-    tail_more A (s ∷ steps) = omega (arith, tail-grows sizes A s page_some, tail_more (A ++ s ∷ []) steps, ap (tail sizes) (append_assoc A (s ∷ []) steps))
-
     places_below : (A steps : List Step) → Every (EndsBelow (tail sizes (A ++ steps))) (places sizes A steps)
     places_below A [] = tt
     places_below A (s ∷ steps) =
         let P = EndsBelow (tail sizes (A ++ s ∷ steps)) in
         let same = append_assoc A (s ∷ []) steps in
-        let more = tail_more (A ++ s ∷ []) steps in
+        let more = tail_more sizes page_some (A ++ s ∷ []) steps in
         every_append P (places sizes (A ++ s ∷ []) steps) (placed_by sizes A s)
         (subst (λ (l : List Step). Every (EndsBelow (tail sizes l)) (places sizes (A ++ s ∷ []) steps)) same (places_below (A ++ s ∷ []) steps))
         (every_weaker (EndsBelow (tail sizes (A ++ s ∷ []))) P (placed_by sizes A s) (λ x e. higher (tail sizes (A ++ s ∷ [])) (tail sizes (A ++ s ∷ steps)) (omega (arith, more, ap (tail sizes) same)) x e) (placed_below A s))
@@ -349,7 +358,7 @@ module _ (sizes : Sizes) (count : ℕ) where
       told_below (Called met left) ts [] h few = tt
       told_below (Called met left) ts (call ∷ calls) h few =
           let more = both sizes whole page_some frames_some accepted (left_by call) A h.1.0 bA (omega (arith, few, h.0.1, length-append call.before call.steps)) in
-          let up : tail sizes (left_by call) ≤ tail sizes A = omega (arith, tail_more (left_by call) more.0, ap (tail sizes) more.1) in
+          let up : tail sizes (left_by call) ≤ tail sizes A = omega (arith, tail_more sizes page_some (left_by call) more.0, ap (tail sizes) more.1) in
           every_append (EndsBelow (tail sizes A)) (places sizes call.before call.steps) (Met left.steps ∷ [])
           (every_weaker (EndsBelow (tail sizes (left_by call))) (EndsBelow (tail sizes A)) (places sizes call.before call.steps) (λ x e. higher (tail sizes (left_by call)) (tail sizes A) up x e) (places_below call.before call.steps)) (tt, tt)
       told_below (Looked u x) ts calls h few = tt
@@ -361,12 +370,12 @@ module _ (sizes : Sizes) (count : ℕ) where
           let P = λ (x : ActBy). EndsBelow (tail sizes A) x.act in
           let rest = joined_below b (dropped t calls) (lower_ties whole t b calls ties) few.1 in
           ⊎_elim
-          (λ (low : t.rider < count).
+          (λ (low : is_thread t.rider ≡ true).
           let own = subst (λ (ts : List Touch). AreTied ts (calls t.rider) × Every (λ (e : Entry). Begins (left_by e) whole) (calls t.rider)) (own_touch t b t.rider refl) (ties t.rider) in
           subst (Every P) (sym (shown_low t calls (joined b (dropped t calls)) low))
           (every_append P (tagged t.rider (told_as sizes t.touch (calls t.rider))) (joined b (dropped t calls)) (every_tagged (EndsBelow (tail sizes A)) t.rider (told_as sizes t.touch (calls t.rider)) (told_below t.touch (touches_of t.rider b) (calls t.rider) own few.0)) rest))
-          (λ (far : count ≤ t.rider). subst (Every P) (sym (shown_high t calls (joined b (dropped t calls)) far)) rest)
-          (cases_lt t.rider count)
+          (λ (far : is_thread t.rider ≡ false). subst (Every P) (sym (shown_high t calls (joined b (dropped t calls)) far)) rest)
+          (either (is_thread t.rider))
 
     -- The acts of one touch on top of one trace are one trace: what a load or a change found is what the trace has, and a call
     -- met all that those of the trace left

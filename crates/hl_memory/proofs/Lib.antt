@@ -15,4 +15,9 @@ pub mod ImageLaws
 pub mod SumLaws
 pub mod TraceLaws
 pub mod JoinLaws
+pub mod ThreadLaws
+pub mod BeyondLaws
 pub mod OneLaws
+pub mod CounterLaws
+pub mod AppendLaws
+pub mod RecordLaws

@@ -1,8 +1,7 @@
 -- What all threads did is one trace, and the words and the images are its memory.
-use Rattle.std.proofs.Common.{◌≡◌, ℕ, zero, suc, ◌+◌, ◌*◌, ◌<◌, ◌≤◌, ◌⊎◌, List, [], ◌∷◌, ◌++◌, length, map, refl, ap, sym, ◌∙◌, ⊎_elim, subst, arith, append_assoc}
+use Rattle.std.proofs.Common.{◌≡◌, ℕ, zero, suc, ◌+◌, ◌*◌, ◌<◌, ◌≤◌, ◌⊎◌, Bool, true, false, List, [], ◌∷◌, ◌++◌, length, map, refl, ap, sym, ◌∙◌, ⊎_elim, subst, arith, append_assoc}
 use Rattle.std.specs.Prelude.{Option, Some, None, slice_get}
-use Rattle.std.specs.List.{AllByRecursion as Every}
-use Rattle.std.proofs.lemmas.Bool.{cases_lt}
+use Rattle.std.specs.List.{AllByRecursion as Every, list_any, range_with_len}
 use Rattle.hl_model.specs.declared.step.Step.{Step}
 use Rattle.hl_model.specs.declared.step.Step.TheVariants.{Write}
 use Rattle.hl_model.specs.Offsets.{tail}
@@ -28,15 +27,16 @@ use Rattle.hl_images.proofs.ImageLaws.{flushed_by}
 use Rattle.hl_images.proofs.PlaceLaws.{every_both, shorter}
 use Rattle.hl_images.proofs.WordLaws.{calls_at, within}
 use Rattle.hl_images.proofs.WriterLaws.{writes_both}
-use Rattle.hl_memory.specs.Acts.{in_cells, IsPut, IsWriteAt, IsZeroAt, AreActs, AreActsOf, IsHistory}
+use Rattle.hl_memory.specs.Acts.{is_of_pages, in_cells, IsPut, IsWriteAt, IsZeroAt, AreActs, AreActsOf, IsHistory}
 use Rattle.hl_memory.specs.Memory.{AreOpen}
-use Rattle.hl_memory.specs.OneTrace.{ActBy, acts_by, left_at, EndsBelow, LeftUpTo, AreOne, Serves, HasOneTrace, TracesAreOne}
+use Rattle.hl_memory.specs.OneTrace.{ActBy, acts_by, left_at, EndsBelow, LeftUpTo, AreOne, Serves, HasOneTrace, TracesAreOne, page_left}
 use Rattle.hl_memory.specs.Traces.{by_address, acts_of, trace, RiderTraces}
 use Rattle.hl_memory.proofs.ActLaws.{cells_both}
 use Rattle.hl_memory.proofs.EndLaws.{open_at_end, loaded_at, words_are_memory}
 use Rattle.hl_memory.proofs.FateLaws.{put_tied}
 use Rattle.hl_memory.proofs.FindLaws.{act_is, find_act, IsEntering, ties as acts_tied}
-use Rattle.hl_memory.proofs.JoinLaws.{joined, dropped, all_dropped, joined_theirs, joined_each, OnlyFirst, NoneOfFirst, joined_leaves, joined_behind, CalledUpTo, all_up_to, all_up_more, joined_up_to, Ties, lower_ties, joined_below, one_more, own_touch, shown_low, shown_high}
+use Rattle.hl_memory.proofs.BeyondLaws.{PutsBelow, none_of_other, puts_below, nothing_beyond}
+use Rattle.hl_memory.proofs.JoinLaws.{either, not_both, joined, dropped, all_dropped, joined_theirs, joined_each, OnlyThreads, NoneByThreads, joined_leaves, joined_behind, CalledUpTo, all_up_to, all_up_more, joined_up_to, Ties, lower_ties, joined_below, one_more, own_touch, shown_low, shown_high}
 use Rattle.hl_memory.proofs.KeepLaws.{acts_are_kept, acts_from}
 use Rattle.hl_memory.proofs.LoadLaws.{OpenThere, open_cell, open_unswept}
 use Rattle.hl_memory.proofs.OpenLaws.{change_open, changes_find_memory, load_open, open_there, open_find_memory, histories_stand, whose_act}
@@ -81,8 +81,18 @@ zero_of sizes whole all xs ys act a v calls split entered tied holds puts =
     every_first [] h = tt
     every_first (e ∷ es) h = (h.0.0, every_first es h.1)
 
-module _ (F : Type 0) (sizes : Sizes) (riders : List RiderState) (ending : EndingState F) (ends : IsEnding sizes riders ending) (count : ℕ) (page_some : 0 < sizes.page_size) (frames_some : 0 < sizes.frames)
-    (first : (i : ℕ) (r : RiderState) → i < count → slice_get riders i ≡ Some r → RiderTraces sizes r) (others : (i : ℕ) (r : RiderState) → count ≤ i → slice_get riders i ≡ Some r → Serves sizes r) where
+-- a list is what a function gives from a place on, if each of its elements is
+word_by_word : (f : ℕ → ℕ) (xs : List ℕ) (a n : ℕ) → length xs ≡ n → ((k v : ℕ) → slice_get xs k ≡ Some v → v ≡ f (a + k)) → xs ≡ map f (range_with_len a n)
+word_by_word f [] a zero long each = refl
+word_by_word f [] a (suc n) long each = absurd (omega (arith, long))
+word_by_word f (x ∷ xs) a zero long each = absurd (omega (arith, long))
+word_by_word f (x ∷ xs) a (suc n) long each =
+    let first : x ≡ f a = each 0 x refl ∙ ap f (omega arith) in
+    let rest = word_by_word f xs (a + 1) n (omega (arith, long)) (λ k v there. each (suc k) v there ∙ ap f (omega arith)) in
+    ap (λ (y : ℕ). y ∷ xs) first ∙ ap (λ (ys : List ℕ). f a ∷ ys) rest
+
+module _ (F : Type 0) (sizes : Sizes) (riders : List RiderState) (ending : EndingState F) (ends : IsEnding sizes riders ending) (is_thread : ℕ → Bool) (page_some : 0 < sizes.page_size) (frames_some : 0 < sizes.frames)
+    (first : (i : ℕ) (r : RiderState) → is_thread i ≡ true → slice_get riders i ≡ Some r → RiderTraces sizes r) (others : (i : ℕ) (r : RiderState) → is_thread i ≡ false → slice_get riders i ≡ Some r → Serves sizes r) where
   abbrev whole : List Step
   whole = ends.steps_cut ++ ending.journal
 
@@ -92,9 +102,9 @@ module _ (F : Type 0) (sizes : Sizes) (riders : List RiderState) (ending : Endin
   -- The acts of a rider
   record Chosen (i : ℕ) (acts : List Touch) (o : Option RiderState) : Type 0 where
     are : (r : RiderState) → o ≡ Some r → AreActsOf sizes (ends.steps_cut ++ ending.journal) r acts
-    own : (r : RiderState) → o ≡ Some r → i < count → acts ≡ by_address sizes r.view.touches r.calls
-    opens : (r : RiderState) → o ≡ Some r → i < count → AreOpen sizes acts r.calls (closed (ends.steps_cut ++ ending.journal))
-    zeros : (r : RiderState) → o ≡ Some r → count ≤ i → AreActs sizes acts r.calls []
+    own : (r : RiderState) → o ≡ Some r → is_thread i ≡ true → acts ≡ by_address sizes r.view.touches r.calls
+    opens : (r : RiderState) → o ≡ Some r → is_thread i ≡ true → AreOpen sizes acts r.calls (closed (ends.steps_cut ++ ending.journal))
+    zeros : (r : RiderState) → o ≡ Some r → is_thread i ≡ false → AreActs sizes acts r.calls []
     none : o ≡ None → acts ≡ []
 
   same_rider : (r q : RiderState) → Some r ≡ Some q → r ≡ q
@@ -117,9 +127,9 @@ module _ (F : Type 0) (sizes : Sizes) (riders : List RiderState) (ending : Endin
           none = λ e. refl;
         },
       )
-      by (Some r) at = ⊎_elim low high (cases_lt i count)
+      by (Some r) at = ⊎_elim low high (either (is_thread i))
         where
-          low : i < count → (acts : List Touch) × Chosen i acts (Some r)
+          low : is_thread i ≡ true → (acts : List Touch) × Chosen i acts (Some r)
           low less =
               let acts = by_address sizes r.view.touches r.calls in
               let h = (acts_are_kept sizes).ends (ends.steps_cut ++ ending.journal) r acts (first i r less at).acts in (
@@ -128,12 +138,12 @@ module _ (F : Type 0) (sizes : Sizes) (riders : List RiderState) (ending : Endin
                   are = λ q e. subst (λ (x : RiderState). AreActsOf sizes (ends.steps_cut ++ ending.journal) x acts) (same_rider r q e) h.0;
                   own = λ q e some. ap (λ (x : RiderState). by_address sizes x.view.touches x.calls) (same_rider r q e);
                   opens = λ q e some. subst (λ (x : RiderState). AreOpen sizes acts x.calls (closed (ends.steps_cut ++ ending.journal))) (same_rider r q e) h.1;
-                  zeros = λ q e far. absurd (omega (arith, less, far));
+                  zeros = λ q e far. absurd (not_both less far);
                   none = λ e. absurd (no_rider r (sym e));
                 },
               )
 
-          high : count ≤ i → (acts : List Touch) × Chosen i acts (Some r)
+          high : is_thread i ≡ false → (acts : List Touch) × Chosen i acts (Some r)
           high far =
               let s = others i r far at in
               let made = acts_from sizes page_some frames_some r.view.touches r.calls [] s.enters.entered s.enters.within in
@@ -141,8 +151,8 @@ module _ (F : Type 0) (sizes : Sizes) (riders : List RiderState) (ending : Endin
                 made.0,
                 record {
                   are = λ q e. subst (λ (x : RiderState). AreActsOf sizes (ends.steps_cut ++ ending.journal) x made.0) (same_rider r q e) are;
-                  own = λ q e less. absurd (omega (arith, less, far));
-                  opens = λ q e less. absurd (omega (arith, less, far));
+                  own = λ q e less. absurd (not_both less far);
+                  opens = λ q e less. absurd (not_both less far);
                   zeros = λ q e some. subst (λ (x : RiderState). AreActs sizes made.0 x.calls []) (same_rider r q e) made.2;
                   none = λ e. absurd (no_rider r (sym e));
                 },
@@ -169,16 +179,16 @@ module _ (F : Type 0) (sizes : Sizes) (riders : List RiderState) (ending : Endin
       let begins = (of i r at).begins in
       (acts_tied sizes whole r (touches_of i history) (its.each i r at) begins (every_at (λ (z : RiderState). AreTied z.view.touches z.calls) riders ends.tied i r at), begins)
 
-  begin_ties : Ties sizes count page_some (ends.steps_cut ++ ending.journal) history_is.0 (λ i. calls_of (slice_get riders i))
+  begin_ties : Ties sizes is_thread page_some (ends.steps_cut ++ ending.journal) history_is.0 (λ i. calls_of (slice_get riders i))
   begin_ties i = by (slice_get riders i) refl
     where
       by : (o : Option RiderState) → slice_get riders i ≡ o → AreTied (touches_of i history_is.0) (calls_of o) × Every (λ (e : Entry). Begins (left_by e) (ends.steps_cut ++ ending.journal)) (calls_of o)
       by None at = (subst (λ (l : List Touch). AreTied l []) (sym (history_is.2 i ∙ (chosen i).1.none at)) tt, tt)
       by (Some r) at = acts_begin i r at
 
-  -- where an address is open, nobody but the first riders stored at it before
-  only_first : (newer b : List TouchBy) (a : ℕ) → history_is.0 ≡ newer ++ b → OpenThere sizes (ends.steps_cut ++ ending.journal) (map (λ (q : RiderState). q.view) riders) a b → OnlyFirst sizes count a b
-  only_first newer b a parts o front i act base w at puts = ⊎_elim (λ (low : i < count). low) (λ (far : count ≤ i). absurd (high far)) (cases_lt i count)
+  -- where an address is open, nobody but threads stored at it before
+  only_threads : (newer b : List TouchBy) (a : ℕ) → history_is.0 ≡ newer ++ b → OpenThere sizes (ends.steps_cut ++ ending.journal) (map (λ (q : RiderState). q.view) riders) a b → OnlyThreads sizes is_thread a b
+  only_threads newer b a parts o front i act base w at puts = ⊎_elim (λ (low : is_thread i ≡ true). low) (λ (far : is_thread i ≡ false). absurd (high far)) (either (is_thread i))
     where
       all : history_is.0 ≡ (newer ++ front) ++ by_rider i act ∷ base
       all = parts ∙ ap (λ (l : List TouchBy). newer ++ l) at ∙ sym (append_assoc newer front (by_rider i act ∷ base))
@@ -186,7 +196,7 @@ module _ (F : Type 0) (sizes : Sizes) (riders : List RiderState) (ending : Endin
       split : touches_of i history_is.0 ≡ touches_of i (newer ++ front) ++ act ∷ touches_of i base
       split = ap (touches_of i) all ∙ touches_both i (newer ++ front) (by_rider i act ∷ base) ∙ ap (λ (l : List Touch). touches_of i (newer ++ front) ++ l) (own_more i act base)
 
-      high : count ≤ i → ⊥
+      high : is_thread i ≡ false → ⊥
       high far =
           let r = whose_act F sizes riders ending ends page_some frames_some history its i (newer ++ front) base act all in
           let entered = subst (λ (l : List Touch). AreActs sizes l r.0.calls []) (sym (history_is.2 i)) ((chosen i).1.zeros r.0 r.1 far) in
@@ -196,32 +206,32 @@ module _ (F : Type 0) (sizes : Sizes) (riders : List RiderState) (ending : Endin
           open_unswept F sizes riders ending ends page_some frames_some history newer b its parts a o front i act base w z.0 at z.1 z.2 z.3
 
   -- what is there of an open address is what the trace has
-  kept : (newer b : List TouchBy) (a : ℕ) (calls : ℕ → List Entry) → history_is.0 ≡ newer ++ b → OpenThere sizes (ends.steps_cut ++ ending.journal) (map (λ (q : RiderState). q.view) riders) a b → held a b ≡ left_at a (joined sizes count b calls)
-  kept newer b a calls parts o = sym (joined_leaves sizes count a b calls (only_first newer b a parts o))
+  kept : (newer b : List TouchBy) (a : ℕ) (calls : ℕ → List Entry) → history_is.0 ≡ newer ++ b → OpenThere sizes (ends.steps_cut ++ ending.journal) (map (λ (q : RiderState). q.view) riders) a b → held a b ≡ left_at a (joined sizes is_thread b calls)
+  kept newer b a calls parts o = sym (joined_leaves sizes is_thread a b calls (only_threads newer b a parts o))
 
-  -- the acts of the first riders are one trace
-  are_one : (newer b : List TouchBy) (calls : ℕ → List Entry) → history_is.0 ≡ newer ++ b → Ties sizes count page_some (ends.steps_cut ++ ending.journal) b calls → AreOne (joined sizes count b calls)
+  -- the acts of the threads are one trace
+  are_one : (newer b : List TouchBy) (calls : ℕ → List Entry) → history_is.0 ≡ newer ++ b → Ties sizes is_thread page_some (ends.steps_cut ++ ending.journal) b calls → AreOne (joined sizes is_thread b calls)
   are_one newer [] calls is tied = tt
   are_one newer (t ∷ b) calls is tied =
       let sooner = are_one (newer ++ t ∷ []) b (dropped t calls) next lower in
       ⊎_elim
-      (λ (low : t.rider < count). subst AreOne (sym (shown_low sizes count t calls X low)) (one_more sizes count page_some t.rider t.touch (calls t.rider) X sooner (loads low) (changes low) meets))
-      (λ (far : count ≤ t.rider). subst AreOne (sym (shown_high sizes count t calls X far)) sooner)
-      (cases_lt t.rider count)
+      (λ (low : is_thread t.rider ≡ true). subst AreOne (sym (shown_low sizes is_thread t calls X low)) (one_more sizes is_thread page_some t.rider t.touch (calls t.rider) X sooner (loads low) (changes low) meets))
+      (λ (far : is_thread t.rider ≡ false). subst AreOne (sym (shown_high sizes is_thread t calls X far)) sooner)
+      (either (is_thread t.rider))
     where
       X : List ActBy
-      X = joined sizes count b (dropped t calls)
+      X = joined sizes is_thread b (dropped t calls)
 
       next : history_is.0 ≡ (newer ++ t ∷ []) ++ b
       next = is ∙ sym (append_assoc newer (t ∷ []) b)
 
-      lower : Ties sizes count page_some (ends.steps_cut ++ ending.journal) b (dropped t calls)
-      lower = lower_ties sizes count page_some whole t b calls tied
+      lower : Ties sizes is_thread page_some (ends.steps_cut ++ ending.journal) b (dropped t calls)
+      lower = lower_ties sizes is_thread page_some whole t b calls tied
 
       here : (u : Touch) → t.touch ≡ u → history_is.0 ≡ newer ++ by_rider t.rider u ∷ b
       here u e = is ∙ ap (λ (x : Touch). newer ++ by_rider t.rider x ∷ b) e
 
-      loads : t.rider < count → (a v : ℕ) → t.touch ≡ Loaded a v → v ≡ left_at a (joined sizes count b (dropped t calls))
+      loads : is_thread t.rider ≡ true → (a v : ℕ) → t.touch ≡ Loaded a v → v ≡ left_at a (joined sizes is_thread b (dropped t calls))
       loads low a v e =
           let parts = here (Loaded a v) e in
           let r = whose_act F sizes riders ending ends page_some frames_some history its t.rider newer b (Loaded a v) parts in
@@ -230,7 +240,7 @@ module _ (F : Type 0) (sizes : Sizes) (riders : List RiderState) (ending : Endin
           open_find_memory F sizes riders ending ends page_some frames_some history its t.rider r.0 r.1 opens newer b (Loaded a v) parts
           ∙ kept (newer ++ t ∷ []) b a (dropped t calls) next (open_there F sizes riders ending ends page_some frames_some history its t.rider newer b (Loaded a v) a parts o)
 
-      changes : t.rider < count → (a f v : ℕ) → t.touch ≡ Changed a f v → f ≡ left_at a (joined sizes count b (dropped t calls))
+      changes : is_thread t.rider ≡ true → (a f v : ℕ) → t.touch ≡ Changed a f v → f ≡ left_at a (joined sizes is_thread b (dropped t calls))
       changes low a f v e =
           let parts = here (Changed a f v) e in
           let o = change_open F sizes riders ending ends page_some frames_some history its t.rider newer b a f v parts in
@@ -238,30 +248,30 @@ module _ (F : Type 0) (sizes : Sizes) (riders : List RiderState) (ending : Endin
           ∙ kept (newer ++ t ∷ []) b a (dropped t calls) next (open_there F sizes riders ending ends page_some frames_some history its t.rider newer b (Changed a f v) a parts o)
 
       meets : (met left : Extent) (call : Entry) (older : List Entry) → t.touch ≡ Called met left → calls t.rider ≡ call ∷ older
-          → Every (λ (x : ActBy). LeftUpTo left.steps x.act) (joined sizes count b (dropped t calls)) × Every (λ (x : ActBy). EndsBelow (tail sizes call.before) x.act) (joined sizes count b (dropped t calls))
+          → Every (λ (x : ActBy). LeftUpTo left.steps x.act) (joined sizes is_thread b (dropped t calls)) × Every (λ (x : ActBy). EndsBelow (tail sizes call.before) x.act) (joined sizes is_thread b (dropped t calls))
       meets met left call older e own =
           let parts = here (Called met left) e in
           let cells = sym its.cells ∙ ap (in_cells sizes) parts ∙ cells_both sizes newer (by_rider t.rider (Called met left) ∷ b) in
           let serial = serial_end (in_cells sizes newer) (by_rider t.rider (Called met left) ∷ in_cells sizes b) (subst IsSerial cells ends.ruled.rule.order.1.serial) in
-          let few = all_up_to sizes count met b (met_all t.rider met left (in_cells sizes b) serial) in
+          let few = all_up_to sizes is_thread met b (met_all t.rider met left (in_cells sizes b) serial) in
           let its_tie = subst (λ (ts : List Touch). AreTied ts (calls t.rider) × Every (λ (x : Entry). Begins (left_by x) whole) (calls t.rider)) (own_touch t b t.rider refl ∙ ap (λ (u : Touch). u ∷ touches_of t.rider b) e) (tied t.rider) in
           let tie = subst (λ (es : List Entry). AreTied (Called met left ∷ touches_of t.rider b) es × Every (λ (x : Entry). Begins (left_by x) whole) es) own its_tie in
           let begins = shorter sizes whole page_some frames_some ends.accepted call.before call.steps tie.1.0 in (
-            joined_up_to sizes count left.steps b (dropped t calls) (all_up_more sizes count met.steps left.steps (omega (arith, tie.0.0, tie.0.1)) b few),
-            joined_below sizes count page_some frames_some whole ends.accepted call.before begins b (dropped t calls) lower (subst (λ (n : ℕ). Every (λ (x : TouchBy). CalledUpTo sizes count n x.touch) b) tie.0.0 few),
+            joined_up_to sizes is_thread left.steps b (dropped t calls) (all_up_more sizes is_thread met.steps left.steps (omega (arith, tie.0.0, tie.0.1)) b few),
+            joined_below sizes is_thread page_some frames_some whole ends.accepted call.before begins b (dropped t calls) lower (subst (λ (n : ℕ). Every (λ (x : TouchBy). CalledUpTo sizes is_thread n x.touch) b) tie.0.0 few),
           )
 
   abbrev all_acts : List ActBy
-  all_acts = joined sizes count history_is.0 (λ i. calls_of (slice_get riders i))
+  all_acts = joined sizes is_thread history_is.0 (λ i. calls_of (slice_get riders i))
 
-  each_own : (i : ℕ) (r : RiderState) → i < count → slice_get riders i ≡ Some r → acts_by i (joined sizes count history_is.0 (λ j. calls_of (slice_get riders j))) ≡ trace sizes r
+  each_own : (i : ℕ) (r : RiderState) → is_thread i ≡ true → slice_get riders i ≡ Some r → acts_by i (joined sizes is_thread history_is.0 (λ j. calls_of (slice_get riders j))) ≡ trace sizes r
   each_own i r less at =
-      joined_each sizes count i less history (λ j. calls_of (slice_get riders j))
+      joined_each sizes is_thread i less history (λ j. calls_of (slice_get riders j))
       ∙ ap (λ (l : List Touch). acts_of sizes l (calls_of (slice_get riders i))) (history_is.2 i ∙ (chosen i).1.own r at less)
       ∙ ap (λ (o : Option RiderState). acts_of sizes (by_address sizes r.view.touches r.calls) (calls_of o)) at
 
   -- the image of a page that was flushed
-  page_word : (i page k v : ℕ) (image : List ℕ) (r : RiderState) → slice_get riders i ≡ Some r → HasFlushed sizes page image r → slice_get image k ≡ Some v → v ≡ left_at (page * sizes.page_size + k) (joined sizes count history_is.0 (λ j. calls_of (slice_get riders j)))
+  page_word : (i page k v : ℕ) (image : List ℕ) (r : RiderState) → slice_get riders i ≡ Some r → HasFlushed sizes page image r → slice_get image k ≡ Some v → v ≡ left_at (page * sizes.page_size + k) (joined sizes is_thread history_is.0 (λ j. calls_of (slice_get riders j)))
   page_word i page k v image r at flushed there =
       let calls = λ (j : ℕ). calls_of (slice_get riders j) in
       let a = page * sizes.page_size + k in
@@ -271,29 +281,60 @@ module _ (F : Type 0) (sizes : Sizes) (riders : List RiderState) (ending : Endin
       let l = loaded_at F sizes riders ending page k v image imaged page_some frames_some history own there in
       let o = subst (λ (e : IsEnding sizes riders ending). OpenThere sizes (e.steps_cut ++ ending.journal) views a l.before) f.1 l.is_open in
       let inside : k < sizes.page_size = omega (arith, within image k v there, imaged.places) in
-      let none : NoneOfFirst sizes count a l.newer = λ front j act base w is puts.
+      let none : NoneByThreads sizes is_thread a l.newer = λ front j act base w is puts.
       ⊎_elim
-      (λ (low : j < count).
+      (λ (low : is_thread j ≡ true).
       let s = stays F sizes riders ending page k image imaged page_some frames_some inside history l.newer l.before own l.parts l.calls j w act front base is puts in
       absurd (s.3 (first j s.1 low s.2).pages))
-      (λ (far : count ≤ j). far)
-      (cases_lt j count) in
+      (λ (far : is_thread j ≡ false). far)
+      (either (is_thread j)) in
       l.finds ∙ open_cell F sizes riders ending ends page_some frames_some history l.newer l.before its l.parts a o
-      ∙ kept l.newer l.before a (all_dropped sizes count a l.newer calls) l.parts o
-      ∙ sym (joined_behind sizes count a l.newer l.before calls none)
-      ∙ ap (λ (h : List TouchBy). left_at a (joined sizes count h calls)) (sym l.parts)
+      ∙ kept l.newer l.before a (all_dropped sizes is_thread a l.newer calls) l.parts o
+      ∙ sym (joined_behind sizes is_thread a l.newer l.before calls none)
+      ∙ ap (λ (h : List TouchBy). left_at a (joined sizes is_thread h calls)) (sym l.parts)
 
-  pub one_trace : HasOneTrace sizes riders ending ends count
+  -- all its words are
+  page_is : (i page : ℕ) (image : List ℕ) (r : RiderState) → slice_get riders i ≡ Some r → HasFlushed sizes page image r → image ≡ page_left sizes page (joined sizes is_thread history_is.0 (λ j. calls_of (slice_get riders j)))
+  page_is i page image r at flushed =
+      let f = flushed_by F sizes riders ending i page image r ends at flushed in
+      word_by_word (λ a. left_at a (joined sizes is_thread history_is.0 (λ j. calls_of (slice_get riders j)))) image (page * sizes.page_size) sizes.page_size f.0.places (λ k v there. page_word i page k v image r at flushed there)
+
+  -- each rider's own acts store below the tail
+  own_below : (i : ℕ) → Every (PutsBelow (tail sizes (ends.steps_cut ++ ending.journal))) (acts_by i (joined sizes is_thread history_is.0 (λ j. calls_of (slice_get riders j))))
+  own_below i = ⊎_elim low high (either (is_thread i))
+    where
+      all : List ActBy
+      all = joined sizes is_thread history_is.0 (λ j. calls_of (slice_get riders j))
+
+      high : is_thread i ≡ false → Every (PutsBelow (tail sizes (ends.steps_cut ++ ending.journal))) (acts_by i (joined sizes is_thread history_is.0 (λ j. calls_of (slice_get riders j))))
+      high far = subst (Every (PutsBelow (tail sizes whole))) (sym (none_of_other is_thread i all far (joined_theirs sizes is_thread history_is.0 (λ j. calls_of (slice_get riders j))))) tt
+
+      low : is_thread i ≡ true → Every (PutsBelow (tail sizes (ends.steps_cut ++ ending.journal))) (acts_by i (joined sizes is_thread history_is.0 (λ j. calls_of (slice_get riders j))))
+      low own = by (slice_get riders i) refl
+        where
+          by : (o : Option RiderState) → slice_get riders i ≡ o → Every (PutsBelow (tail sizes (ends.steps_cut ++ ending.journal))) (acts_by i (joined sizes is_thread history_is.0 (λ j. calls_of (slice_get riders j))))
+          by (Some r) at =
+              let t = first i r own at in
+              let plain = every_both (λ (e : Entry). Begins (left_by e) whole) (λ (e : Entry). list_any is_of_pages e.steps ≡ false) r.calls (acts_begin i r at).1 t.pages in
+              subst (Every (PutsBelow (tail sizes whole))) (sym (each_own i r own at)) (puts_below sizes page_some whole (by_address sizes r.view.touches r.calls) r.calls [] t.acts.entered plain)
+          by None at =
+              subst (Every (PutsBelow (tail sizes whole)))
+              (sym (joined_each sizes is_thread i own history_is.0 (λ j. calls_of (slice_get riders j))
+              ∙ ap (λ (l : List Touch). acts_of sizes l (calls_of (slice_get riders i))) (history_is.2 i ∙ (chosen i).1.none at)))
+              tt
+
+  pub one_trace : HasOneTrace sizes riders ending ends is_thread
   one_trace = record {
     all = all_acts;
     one = are_one [] history_is.0 (λ i. calls_of (slice_get riders i)) refl begin_ties;
     each = each_own;
-    theirs = joined_theirs sizes count history_is.0 (λ i. calls_of (slice_get riders i));
+    theirs = joined_theirs sizes is_thread history_is.0 (λ i. calls_of (slice_get riders i));
     words = λ a unclosed below.
         words_are_memory F sizes riders ending ends page_some frames_some history its a below unclosed
         ∙ kept [] history a (λ i. calls_of (slice_get riders i)) refl (open_at_end F sizes riders ending ends history its a below unclosed);
-    pages = page_word;
+    beyond = λ a far. nothing_beyond sizes page_some whole a all_acts far own_below;
+    pages = page_is;
   }
 
 pub traces_are_one : (F : Type 0) → TracesAreOne F
-traces_are_one F sizes riders ending ends count page_some frames_some first others = one_trace F sizes riders ending ends count page_some frames_some first others
+traces_are_one F sizes riders ending ends is_thread page_some frames_some first others = one_trace F sizes riders ending ends is_thread page_some frames_some first others

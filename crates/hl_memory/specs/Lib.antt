@@ -4,3 +4,5 @@ pub mod Images
 pub mod Keeping
 pub mod Traces
 pub mod OneTrace
+pub mod Counters
+pub mod Records

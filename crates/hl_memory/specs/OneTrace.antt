@@ -1,6 +1,6 @@
 -- One trace of all threads: what they did in one order, as one memory by address did it.
-use Rattle.std.specs.Prelude.{ℕ, ◌≡◌, ◌<◌, ◌≤◌, ◌+◌, ◌*◌, ◌==◌, if◌then◌else◌, List, [], ◌∷◌, ◌++◌, Some, slice_get, slice_index}
-use Rattle.std.specs.List.{AllByRecursion}
+use Rattle.std.specs.Prelude.{ℕ, ◌≡◌, ◌<◌, Bool, true, false, ◌≤◌, ◌+◌, ◌*◌, ◌==◌, if◌then◌else◌, List, [], ◌∷◌, ◌++◌, map, Some, slice_get, slice_index}
+use Rattle.std.specs.List.{AllByRecursion, range_with_len}
 use Rattle.hl_model.specs.Offsets.{tail}
 use Rattle.hl_model.specs.Settled.{closed}
 use Rattle.hl_model.specs.Sizes.{Sizes}
@@ -40,6 +40,11 @@ abbrev pub left_at : ℕ → List ActBy → ℕ
 left_at a [] = 0
 left_at a (t ∷ before) = leaves_at a t.act (left_at a before)
 
+-- the words of a page, as these acts leave them
+abbrev pub page_left : Sizes → ℕ → List ActBy → List ℕ
+page_left sizes page all =
+    map (λ a. left_at a all) (range_with_len (page * sizes.page_size) sizes.page_size)
+
 -- if the act placed a record, that ends at this address or below
 abbrev pub EndsBelow : ℕ → Act → Type 0
 EndsBelow a (Placed b n) = b + n ≤ a
@@ -69,25 +74,27 @@ pub record Serves (sizes : Sizes) (r : RiderState) : Type 0 where
   pub enters : RiderEnters sizes r
   pub writes : AllByRecursion (λ e. newest_writes e.steps [] ≡ []) r.calls
 
--- All that so many threads did, in one order, in which each finds what that memory has: each thread's acts are its trace.
--- At the end the words of all addresses that aren't closed are that memory, and so are the words of each page that was flushed
+-- All that those riders did which are threads, in one order, in which each finds what that memory has: each thread's acts
+-- are its trace. At the end the words of all addresses that aren't closed are that memory, and so are the words of each
+-- page that was flushed; at the tail or beyond nothing was stored
 pub record HasOneTrace {F : Type 0} (sizes : Sizes) (riders : List RiderState) (ending : EndingState F)
-    (ends : IsEnding sizes riders ending) (count : ℕ) : Type 0 where
+    (ends : IsEnding sizes riders ending) (is_thread : ℕ → Bool) : Type 0 where
   pub all : List ActBy
   pub one : AreOne all
-  pub each : (i : ℕ) (r : RiderState) → i < count → slice_get riders i ≡ Some r → acts_by i all ≡ trace sizes r
-  pub theirs : AllByRecursion (λ t. t.thread < count) all
+  pub each : (i : ℕ) (r : RiderState) → is_thread i ≡ true → slice_get riders i ≡ Some r
+      → acts_by i all ≡ trace sizes r
+  pub theirs : AllByRecursion (λ t. is_thread t.thread ≡ true) all
   pub words : (a : ℕ) → closed (ends.steps_cut ++ ending.journal) ≤ a
       → a < tail sizes (ends.steps_cut ++ ending.journal)
       → slice_index ending.words.words (cell_at sizes a) ≡ left_at a all
-  pub pages : (i page k v : ℕ) (image : List ℕ) (r : RiderState) → slice_get riders i ≡ Some r
-      → HasFlushed sizes page image r → slice_get image k ≡ Some v
-      → v ≡ left_at (page * sizes.page_size + k) all
+  pub beyond : (a : ℕ) → tail sizes (ends.steps_cut ++ ending.journal) ≤ a → left_at a all ≡ 0
+  pub pages : (i page : ℕ) (image : List ℕ) (r : RiderState) → slice_get riders i ≡ Some r
+      → HasFlushed sizes page image r → image ≡ page_left sizes page all
 
--- Where the first of a domain's riders have traces, and the others serve them, all that those did is one trace
+-- Where some of a domain's riders are threads, which have traces, and the others serve them, all that those did is one trace
 abbrev pub TracesAreOne : Type 0 → Type 0
 TracesAreOne F = (sizes : Sizes) (riders : List RiderState) (ending : EndingState F)
-    (ends : IsEnding sizes riders ending) (count : ℕ) → 0 < sizes.page_size → 0 < sizes.frames
-    → ((i : ℕ) (r : RiderState) → i < count → slice_get riders i ≡ Some r → RiderTraces sizes r)
-    → ((i : ℕ) (r : RiderState) → count ≤ i → slice_get riders i ≡ Some r → Serves sizes r)
-    → HasOneTrace sizes riders ending ends count
+    (ends : IsEnding sizes riders ending) (is_thread : ℕ → Bool) → 0 < sizes.page_size → 0 < sizes.frames
+    → ((i : ℕ) (r : RiderState) → is_thread i ≡ true → slice_get riders i ≡ Some r → RiderTraces sizes r)
+    → ((i : ℕ) (r : RiderState) → is_thread i ≡ false → slice_get riders i ≡ Some r → Serves sizes r)
+    → HasOneTrace sizes riders ending ends is_thread
