@@ -21,3 +21,4 @@ pub mod OneLaws
 pub mod CounterLaws
 pub mod AppendLaws
 pub mod RecordLaws
+pub mod WholeLaws

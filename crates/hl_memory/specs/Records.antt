@@ -1,5 +1,5 @@
 -- Records in a log: what threads that append records, and store nothing else, leave to whoever reads them.
-use Rattle.std.specs.Prelude.{ℕ, ◌≡◌, ◌≢◌, ◌<◌, ◌≤◌, ◌+◌, ◌⊎◌, List, [], ◌∷◌, ◌++◌, length, take, Some, slice_get}
+use Rattle.std.specs.Prelude.{ℕ, ◌≡◌, ◌≢◌, ◌<◌, ◌≤◌, ◌+◌, ◌-◌, ◌⊎◌, List, [], ◌∷◌, ◌++◌, length, take, Some, slice_get}
 use Rattle.std.specs.List.{flat_map}
 use Rattle.hl_memory.specs.declared.act.Act.{Act}
 use Rattle.hl_memory.specs.declared.act.Act.TheVariants.{Placed, Stored, Loaded, Changed, Met}
@@ -16,6 +16,11 @@ pub record Appended : Type 0 where
 abbrev pub stores_from : ℕ → List ℕ → List Act → List Act
 stores_from a [] before = before
 stores_from a (w ∷ ws) before = stores_from (a + 1) ws (Stored a w ∷ before)
+
+-- loads of these words from an address on, on top of others
+abbrev pub loads_from : ℕ → List ℕ → List Act → List Act
+loads_from a [] before = before
+loads_from a (w ∷ ws) before = loads_from (a + 1) ws (Loaded a w ∷ before)
 
 -- what its append did, the newest act first
 abbrev pub append_acts : Appended → List Act
@@ -68,6 +73,22 @@ RecordsAreRead = (all : List ActBy) (records : ℕ → List Appended) → AreOne
     → all ≡ newer ++ by_thread j (Loaded (r.address + l) y)
     ∷ (between ++ by_thread n (Loaded (r.address + m) x) ∷ before)
     → x ≢ 0 → y ≡ v
+
+-- So whoever loads in a row as many words as a record has, after a load of its own that found the record's last word, other
+-- than 0, has the whole record
+abbrev pub RecordsAreWhole : Type 0
+RecordsAreWhole = (all : List ActBy) (records : ℕ → List Appended) → AreOne all → AllAppend records all
+    → (i k j x : ℕ) (r : Appended) (words : List ℕ) (later between base : List Act)
+    → slice_get (records i) k ≡ Some r → acts_by j all
+    ≡ later ++ loads_from r.address words (between ++ Loaded (r.address + (length words - 1)) x ∷ base)
+    → length words ≡ length r.words → 0 < length words → x ≢ 0 → words ≡ r.words
+
+-- A thread that found another word than 0 in a record found the record's
+abbrev pub RecordsAreFoundBy : Type 0
+RecordsAreFoundBy = (all : List ActBy) (records : ℕ → List Appended) → AreOne all → AllAppend records all
+    → (i k j x m v : ℕ) (r : Appended) (later base : List Act) → slice_get (records i) k ≡ Some r
+    → slice_get r.words m ≡ Some v → acts_by j all ≡ later ++ Loaded (r.address + m) x ∷ base → x ≢ 0
+    → x ≡ v
 
 -- Where no word of a record was stored there is 0
 abbrev pub OthersAreZero : Type 0

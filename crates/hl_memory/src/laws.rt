@@ -5,7 +5,7 @@ ghost use Rattle.hl_memory.specs.Images.{ImagesAreMemory, ImagesAreSumsAnywhere,
 ghost use Rattle.hl_memory.specs.Keeping.{ActsAreKept, ActsStand, CallsMeetView};
 ghost use Rattle.hl_memory.specs.OneTrace.{TracesAreOne};
 ghost use Rattle.hl_memory.specs.Memory.{CellsAreMemory, ChangesFindMemory, HistoriesStand, LoadsFindMemory, OneMemory, OpenFindMemory, SeenIsOpen, WordsAreMemory};
-ghost use Rattle.hl_memory.specs.Records.{OthersAreZero, RecordsAreApart, RecordsAreFound, RecordsAreRead, RecordsStay};
+ghost use Rattle.hl_memory.specs.Records.{OthersAreZero, RecordsAreApart, RecordsAreFound, RecordsAreFoundBy, RecordsAreRead, RecordsAreWhole, RecordsStay};
 
 use hl_action::Task;
 
@@ -130,6 +130,17 @@ pub fn records_are_found()
 /// record, as it was appended: so after the record's last word, if that isn't 0, the whole record.
 pub fn records_are_read()
     ensures { RecordsAreRead }
+{}
+
+/// A thread that found another word than 0 in a record found the record's own.
+pub fn records_are_found_by()
+    ensures { RecordsAreFoundBy }
+{}
+
+/// A thread that loads in a row as many words as a record has, after it found the record's last word, other than 0, has the
+/// whole record.
+pub fn records_are_whole()
+    ensures { RecordsAreWhole }
 {}
 
 /// At an address at which no word of a record was stored there is 0.
