@@ -13,6 +13,7 @@ use Rattle.hl_model.specs.Sizes.{Sizes}
 use Rattle.hl_laws.proofs.PageFacts.{head-le-flushed}
 use Rattle.hl_laws.proofs.RunLaws.{run_passes}
 use Rattle.hl_history.specs.declared.view.Entry.{Entry}
+use Rattle.hl_history.specs.Lists.{IsOneList}
 use Rattle.hl_words.specs.States.{RiderState}
 use Rattle.hl_pass.proofs.StoreLaws.{newest-head}
 use Rattle.hl_crew.specs.Riders.{has_flushed}
@@ -37,16 +38,20 @@ flushed_early : (sizes : Sizes) (list : List Step) (p : ℕ) → p < flushed_run
 unfolding flushed_run is_complete
 flushed_early sizes list p early = run_passes (λ q. is_flushed sizes q list) (greatest flushes_below list) p early
 
-pub evicted_were_flushed : EvictedWereFlushed
-evicted_were_flushed sizes list riders a accepted one less =
-    let page : ℕ = a / sizes.page_size in
-    let early : page < flushed_run sizes list = page_within a sizes.page_size (flushed_run sizes list) (omega (arith, less, head-le-flushed sizes list accepted)) in
+-- a page among those that are flushed from the first on was answered as flushed by one of the riders
+pub flushed_by_one : (sizes : Sizes) (list : List Step) (riders : List RiderState) (page : ℕ) → IsOneList list (map (λ r. r.calls) riders) → page < flushed_run sizes list
+    → (i : ℕ) × (r : RiderState) × (slice_get riders i ≡ Some r) × (has_flushed page r.calls ≡ true)
+flushed_by_one sizes list riders page one early =
     let step = passes_at (flushes page) list (flushed_early sizes list page early) in
     let call = entered_call list (map (λ (r : RiderState). r.calls) riders) one step.0 step.1 step.2 in
     let rider = whose_calls riders call.whose call.calls call.record_at in
     let inside : list_any (flushes page) call.call.steps ≡ true = any_passes_from_place (flushes page) call.call.steps call.step step.1 call.step_at step.3 in
     let told : has_flushed page call.calls ≡ true = any_passes_from_place (λ (e : Entry). list_any (flushes page) e.steps) call.calls call.number call.call call.call_at inside in
     (call.whose, rider.0, rider.1, subst (λ calls. has_flushed page calls ≡ true) (sym rider.2) told)
+
+pub evicted_were_flushed : EvictedWereFlushed
+evicted_were_flushed sizes list riders a accepted one less =
+    flushed_by_one sizes list riders (a / sizes.page_size) one (page_within a sizes.page_size (flushed_run sizes list) (omega (arith, less, head-le-flushed sizes list accepted)))
 
 -- no load of the head is above it
 pub loaded_evicted_were_flushed : (F : Type 0) → LoadedEvictedWereFlushed F

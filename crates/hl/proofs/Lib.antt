@@ -3,6 +3,7 @@ pub mod ConfigLaws
 pub mod DoneLaws
 pub mod EvictedLaws
 pub mod FinishLaws
+pub mod FinishedTrace
 pub mod HelpLaws
 pub mod LeaveLaws
 pub mod OutLaws
@@ -13,3 +14,6 @@ pub mod RoomLaws
 pub mod ThreadLaws
 pub mod TryLaws
 pub mod WaitLaws
+pub mod LeftLaws
+pub mod UseLaws
+pub mod AppendActs

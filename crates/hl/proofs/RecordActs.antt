@@ -8,7 +8,8 @@ use Rattle.hl_model.specs.declared.fault.Fault.{Fault}
 use Rattle.hl_memory.specs.declared.act.Act.{Act}
 use Rattle.hl_memory.specs.declared.act.Act.TheVariants.{Placed, Stored, Loaded, Changed, Met}
 use Rattle.hl.specs.Sessions.{SessionState}
-use Rattle.hl.specs.Traces.{acts, if_ok, loads_from, stores_from, without_met, AreMet, Does, InVain, Meets, OnlyMeets, PlacesBy, Stores, StoresSome, AppendsBy}
+use Rattle.hl_memory.specs.Records.{loads_from, stores_from}
+use Rattle.hl.specs.Traces.{acts, if_ok, without_met, AreMet, Does, InVain, Meets, OnlyMeets, PlacesBy, Stores, StoresSome, AppendsBy}
 
 -- a row of loads, with one more
 loads_push : (a : ℕ) (ws : List ℕ) (w : ℕ) (before : List Act) → loads_from a (ws ++ w ∷ []) before ≡ Loaded (a + length ws) w ∷ loads_from a ws before

@@ -1,32 +1,46 @@
 -- What the threads of a log did is one trace.
-use Rattle.std.proofs.Common.{◌≡◌, ℕ, zero, suc, ◌<◌, ◌≤◌, Bool, true, List, [], ◌∷◌, length, map, Some, slice_get, refl, ap, sym, ◌∙◌, subst, arith}
-use Rattle.std.specs.Prelude.{Ok, Result, drop, slice_index_or}
-use Rattle.std.specs.List.{AllByRecursion as Every}
+use Rattle.std.proofs.Common.{◌≡◌, ◌≢◌, ℕ, zero, suc, ◌*◌, ◌<◌, ◌≤◌, Bool, true, false, List, [], ◌∷◌, ◌++◌, length, map, Some, Ok, Err, Result, MatchResult, Vec, Global, slice_get, ltb, ltb-true, ltb-false, refl, ap, sym, ◌∙◌, subst, arith}
+use Rattle.std.specs.Prelude.{◌||◌, drop, slice_index_or}
+use Rattle.std.specs.List.{AllByRecursion as Every, list_any}
+use native.Mathlib.Nat.{lt_of_mul-lt-mul_right}
+use Rattle.std.proofs.lemmas.Bool.{lt-ltb}
 use Rattle.hl_model.specs.declared.fault.Fault.{Fault}
+use Rattle.hl_model.specs.declared.fault.Fault.TheVariants.{Stranger}
 use Rattle.hl_model.specs.declared.step.Step.{Step}
-use Rattle.hl_model.specs.declared.step.Step.TheVariants.{Write}
+use Rattle.hl_model.specs.declared.step.Step.TheVariants.{Write, FlushTake, FlushDone, CleanTake, CleanDone}
 use Rattle.hl_model.specs.declared.snapshot.Snapshot.{Snapshot}
+use Rattle.hl_model.specs.Pages.{flushes, flushed_run}
+use Rattle.hl_model.specs.Sizes.{Sizes, AreInRange}
+use Rattle.hl_laws.proofs.PageFacts.{head-le-flushed}
+use Rattle.hl_laws.proofs.BoundLaws.{closed-le-head}
 use Rattle.hl_history.specs.declared.view.Entry.{Entry}
 use Rattle.hl_words.specs.States.{RiderState, new_rider}
+use Rattle.hl_words.proofs.Cut.{every_weaker}
 use Rattle.hl_keeper.specs.Endings.{EndingState}
 use Rattle.hl_domain.specs.Domains.{DomainState, IsEnding}
+use Rattle.hl_image.specs.Image.{image}
 use Rattle.hl_images.specs.Entered.{newest_writes}
 use Rattle.hl_images.specs.Kept.{RiderEnters}
-use Rattle.hl_memory.specs.OneTrace.{acts_by, Serves, HasOneTrace}
+use Rattle.hl_memory.specs.declared.act.Act.{Act}
+use Rattle.hl_memory.specs.Acts.{is_of_pages, NoneOfPages}
+use Rattle.hl_memory.specs.OneTrace.{acts_by, page_left, ActBy, Serves, HasOneTrace}
 use Rattle.hl_memory.specs.Traces.{trace, RiderTraces}
 use Rattle.hl_memory.proofs.OneLaws.{traces_are_one}
-use Rattle.hl_crew.specs.Riders.{is_crew_step, MakesCrewSteps}
-use Rattle.hl.specs.Closings.{rider_at, AllReturned, FlushesTaken, Stood, Tells}
-use Rattle.hl.specs.Sessions.{SessionState, beside_crew}
-use Rattle.hl.specs.Threads.{ThreadActs, AreOneTrace, ThreadsAreOne}
+use Rattle.hl_crew.specs.Riders.{has_flushed, is_crew_step, MakesCrewSteps}
+use Rattle.hl.specs.declared.opening.Opening.{Opening}
+use Rattle.hl.specs.Closings.{rider_at, AllReturned, AreAllReturned, CountReturned, FlushesTaken, Stood, Tells}
+use Rattle.hl.specs.Openings.{opened_as}
+use Rattle.hl.specs.Sessions.{Beside, SessionState, beside_crew}
+use Rattle.hl.specs.Threads.{ThreadActs, HoldsTrace, AreOneTrace, ThreadsAreOne, HaveOneTrace}
+use Rattle.hl.proofs.EvictedLaws.{flushed_by_one}
 
 -- there is one at each place
-there_is : {X : Type 0} (xs : List X) (i : ℕ) → i < length xs → (x : X) × (slice_get xs i ≡ Some x)
+pub there_is : {X : Type 0} (xs : List X) (i : ℕ) → i < length xs → (x : X) × (slice_get xs i ≡ Some x)
 there_is [] i less = absurd (omega (arith, less))
 there_is (x ∷ xs) zero less = (x, refl)
 there_is (x ∷ xs) (suc i) less = there_is xs i (omega (arith, less))
 
-within : {X : Type 0} (xs : List X) (i : ℕ) (x : X) → slice_get xs i ≡ Some x → i < length xs
+pub within : {X : Type 0} (xs : List X) (i : ℕ) (x : X) → slice_get xs i ≡ Some x → i < length xs
 within [] i x e = absurd (cc e)
 within (y ∷ xs) zero x e = omega arith
 within (y ∷ xs) (suc i) x e = omega (arith, within xs i x e)
@@ -68,65 +82,140 @@ none_written : (calls : List Entry) → Every (λ (e : Entry). Every (λ (s : St
 none_written [] all = tt
 none_written (e ∷ calls) all = (no_writes e.steps [] all.0, none_written calls all.1)
 
-module _ {Out : Type 0} (F : Type 0) (Returns : ℕ → SessionState → SessionState → Out → Type 0) (Took : ℕ → List ℕ → Type 0) (log : DomainState) (may_cut : Bool) (outs : List Out) (riders : List RiderState) (ending : EndingState F)
-    (page_some : 0 < log.sizes.page_size) (frames_some : 0 < log.sizes.frames) (r : AllReturned F log may_cut Returns Took (map (λ out. Ok out) outs) riders) (ends : IsEnding log.sizes riders ending) where
-  count_is : length (oks outs) ≡ length outs
+-- who neither flushes nor cleans answered no page as flushed
+flushes_none : (page : ℕ) (steps : List Step) → list_any is_of_pages steps ≡ false → list_any (flushes page) steps ≡ false
+flushes_none page [] e = refl
+flushes_none page (FlushTake ∷ steps) e = absurd (cc e)
+flushes_none page (FlushDone p ok ∷ steps) e = absurd (cc e)
+flushes_none page (CleanTake ∷ steps) e = absurd (cc e)
+flushes_none page (CleanDone p ∷ steps) e = absurd (cc e)
+flushes_none page (_ ∷ steps) e = flushes_none page steps e
+
+flushed_none : (page : ℕ) (calls : List Entry) → NoneOfPages calls → has_flushed page calls ≡ false
+flushed_none page [] none = refl
+flushed_none page (e ∷ calls) none = ap (λ (b : Bool). b || has_flushed page calls) (flushes_none page e.steps none.0) ∙ flushed_none page calls none.1
+
+-- a page that begins below so many pages is one of them
+page_within : (page size run : ℕ) → page * size < size * run → page < run
+page_within page size run less =
+    let swap : size * run ≡ run * size = omega arith in
+    lt_of_mul-lt-mul_right size (omega (arith, less, swap))
+
+-- Where some of a log's riders are threads, which have traces, and the others serve them and have flushed what was taken
+module _ (F : Type 0) (sizes : Sizes) (Took : ℕ → List ℕ → Type 0) (riders : List RiderState) (ending : EndingState F) (ends : IsEnding sizes riders ending) (is_thread : ℕ → Bool)
+    (page_some : 0 < sizes.page_size) (frames_some : 0 < sizes.frames) (threads : (i : ℕ) (q : RiderState) → is_thread i ≡ true → slice_get riders i ≡ Some q → RiderTraces sizes q)
+    (crew : (i : ℕ) (q : RiderState) → is_thread i ≡ false → slice_get riders i ≡ Some q → Serves sizes q × FlushesTaken Took sizes q) where
+  pub trace_of_all : HasOneTrace sizes riders ending ends is_thread
+  trace_of_all = traces_are_one F sizes riders ending ends is_thread page_some frames_some threads (λ i q other at. (crew i q other at).0)
+
+  flushed_taken : (page i : ℕ) (q : RiderState) → slice_get riders i ≡ Some q → has_flushed page q.calls ≡ true → Took page (image page (page_left sizes page trace_of_all.all))
+  flushed_taken page i q at flushed = by (is_thread i) refl
+    where
+      by : (b : Bool) → is_thread i ≡ b → Took page (image page (page_left sizes page trace_of_all.all))
+      by true own = absurd (let contrary : false ≡ true = sym (flushed_none page q.calls (threads i q own at).pages) ∙ flushed in cc)
+      by false other =
+          let t = (crew i q other at).1 page flushed in
+          subst (λ (words : List ℕ). Took page (image page words)) (trace_of_all.pages i page t.0 q at t.2) t.1
+
+  pub held_of_all : HoldsTrace sizes Took ending trace_of_all.all
+  held_of_all = record {
+    words = λ a unclosed below.
+        let closed_is = ap (λ (s : Snapshot). s.six.closed) ends.snapshot_is in
+        let tail_is = ap (λ (s : Snapshot). s.six.tail) ends.snapshot_is in
+        trace_of_all.words a (omega (arith, unclosed, closed_is)) (omega (arith, below, tail_is));
+    pages = λ page less.
+        let list = ends.steps_cut ++ ending.journal in
+        let flushed_is = ap (λ (s : Snapshot). s.six.flushed) ends.snapshot_is in
+        let one = flushed_by_one sizes list riders page ends.one_list (page_within page sizes.page_size (flushed_run sizes list) (omega (arith, less, flushed_is))) in
+        flushed_taken page one.0 one.1 one.2 one.3;
+    kept =
+        let list = ends.steps_cut ++ ending.journal in
+        let closed_is = ap (λ (s : Snapshot). s.six.closed) ends.snapshot_is in
+        let flushed_is = ap (λ (s : Snapshot). s.six.flushed) ends.snapshot_is in
+        omega (arith, closed_is, flushed_is, closed-le-head sizes list ends.accepted, head-le-flushed sizes list ends.accepted);
+    beyond = λ a far. let tail_is = ap (λ (s : Snapshot). s.six.tail) ends.snapshot_is in trace_of_all.beyond a (omega (arith, far, tail_is));
+  }
+
+-- the acts of a rider that stood in a session
+pub stood_acts : {Out : Type 0} (F : Type 0) (log : DomainState) (beside : Beside) (may_cut : Bool) (Returns : SessionState → SessionState → Out → Type 0) (name : ℕ) (last : RiderState) (out : Out) (own : List Act)
+    → Stood F log beside may_cut Returns (new_rider name) (Ok last) out → own ≡ trace log.sizes last → ThreadActs Returns own out
+stood_acts F log beside may_cut Returns name last out own s here =
+    let sizes = ap (λ (l : DomainState). trace l.sizes last) s.log_stays in
+    record {
+      first = s.first;
+      last = s.last;
+      fresh = s.came;
+      ran = s.ran;
+      left = s.went.0;
+      met = s.went.1;
+      own_is = here ∙ sym sizes ∙ s.went.2.1;
+    }
+
+-- Of threads that each returned a value, and a crew
+module _ {Out : Type 0} (F : Type 0) (Returns : ℕ → SessionState → SessionState → Out → Type 0) (Took : ℕ → List ℕ → Type 0) (log : DomainState) (may_cut : Bool) (count : ℕ) (outs : List Out) (riders : List RiderState)
+    (r : CountReturned F log may_cut Returns Took count (map (λ out. Ok out) outs) riders) where
+  pub count_is : length (oks outs) ≡ length outs
   count_is = long_as outs
 
   stood : (i : ℕ) (out : Out) → slice_get outs i ≡ Some out → Stood F log beside_crew may_cut (Returns i) (new_rider i) (Ok (rider_at riders i)) out
   stood i out at =
       subst (λ (x : Result Out Fault). Tells F log beside_crew may_cut (Returns i) (new_rider i) (rider_at riders i) x) (answered_at outs i out (Ok out) at) (r.each i (Ok out) (omega (arith, within outs i out at, count_is)))
 
-  threads : (i : ℕ) (q : RiderState) → i < length outs → slice_get riders i ≡ Some q → RiderTraces log.sizes q
-  threads i q less at =
+  pub thread_traces : (i : ℕ) (q : RiderState) → i < length outs → slice_get riders i ≡ Some q → RiderTraces log.sizes q
+  thread_traces i q less at =
       let o = there_is outs i less in
       subst (RiderTraces log.sizes) (is_read riders i q (new_rider i) at) (stood i o.0 o.1).traces
 
-  crew : (i : ℕ) (q : RiderState) → length outs ≤ i → slice_get riders i ≡ Some q → Serves log.sizes q
-  crew i q far at =
+  pub crew_serves : (i : ℕ) (q : RiderState) → length outs ≤ i → slice_get riders i ≡ Some q → Serves log.sizes q × FlushesTaken Took log.sizes q
+  crew_serves i q far at =
       let n = length (oks outs) in
-      let beyond : n ≤ i = omega (arith, far, count_is) in
-      record {
-        enters = from_on (RiderEnters log.sizes) n riders r.enters i q beyond at;
-        writes = none_written q.calls (from_on MakesCrewSteps n riders r.makes i q beyond at);
-      }
+      let beyond : n ≤ i = omega (arith, far, count_is) in (
+        record {
+          enters = from_on (RiderEnters log.sizes) n riders r.enters i q beyond at;
+          writes = none_written q.calls (from_on MakesCrewSteps n riders r.makes i q beyond at);
+        },
+        from_on (FlushesTaken Took log.sizes) n riders r.images i q beyond at,
+      )
 
-  one : HasOneTrace log.sizes riders ending ends (length outs)
-  one = traces_are_one F log.sizes riders ending ends (length outs) page_some frames_some threads crew
+  pub thread_acts : (i : ℕ) (out : Out) (own : List Act) → slice_get outs i ≡ Some out → ((q : RiderState) → slice_get riders i ≡ Some q → own ≡ trace log.sizes q) → ThreadActs (Returns i) own out
+  thread_acts i out own at here =
+      let q = there_is riders i (omega (arith, within outs i out at, r.back, r.threads, count_is)) in
+      stood_acts F log beside_crew may_cut (Returns i) i (rider_at riders i) out own (stood i out at) (here q.0 q.1 ∙ ap (trace log.sizes) (sym (is_read riders i q.0 (new_rider i) q.1)))
 
-  thread_acts : (i : ℕ) (out : Out) → slice_get outs i ≡ Some out → ThreadActs (Returns i) (acts_by i one.all) out
-  thread_acts i out at =
-      let s = stood i out at in
-      let less = within outs i out at in
-      let q = there_is riders i (omega (arith, less, r.back, r.threads, count_is)) in
-      let same = is_read riders i q.0 (new_rider i) q.1 in
-      let here : acts_by i one.all ≡ trace log.sizes (rider_at riders i) = one.each i q.0 less q.1 ∙ ap (trace log.sizes) (sym same) in
-      let sizes = ap (λ (l : DomainState). trace l.sizes (rider_at riders i)) s.log_stays in
-      record {
-        first = s.first;
-        last = s.last;
-        fresh = s.came;
-        ran = s.ran;
-        left = s.went.0;
-        met = s.went.1;
-        own_is = here ∙ sym sizes ∙ s.went.2.1;
-      }
+-- Where these are all riders of a log that was closed
+module _ {Out : Type 0} (F : Type 0) (Returns : ℕ → SessionState → SessionState → Out → Type 0) (Took : ℕ → List ℕ → Type 0) (log : DomainState) (may_cut : Bool) (outs : List Out) (riders : List RiderState) (ending : EndingState F)
+    (page_some : 0 < log.sizes.page_size) (frames_some : 0 < log.sizes.frames) (r : AllReturned F log may_cut Returns Took (map (λ out. Ok out) outs) riders) (ends : IsEnding log.sizes riders ending) where
+  abbrev is_first : ℕ → Bool
+  is_first i = ltb i (length outs)
 
-  are_one : AreOneTrace F log.sizes Returns Took outs riders ending
+  threads : (i : ℕ) (q : RiderState) → ltb i (length outs) ≡ true → slice_get riders i ≡ Some q → RiderTraces log.sizes q
+  threads i q first = thread_traces F Returns Took log may_cut log.riders outs riders r i q (ltb-true i (length outs) first)
+
+  crew : (i : ℕ) (q : RiderState) → ltb i (length outs) ≡ false → slice_get riders i ≡ Some q → Serves log.sizes q × FlushesTaken Took log.sizes q
+  crew i q other = crew_serves F Returns Took log may_cut log.riders outs riders r i q (ltb-false i (length outs) other)
+
+  of_all : HasOneTrace log.sizes riders ending ends (λ i. ltb i (length outs))
+  of_all = trace_of_all F log.sizes Took riders ending ends (λ i. ltb i (length outs)) page_some frames_some threads crew
+
+  are_one : AreOneTrace F log.sizes Returns Took outs ending
+  unfolding of_all trace_of_all
   are_one = record {
-    all = one.all;
-    one = one.one;
-    each = thread_acts;
-    theirs = one.theirs;
-    words = λ a unclosed below.
-        let closed_is = ap (λ (s : Snapshot). s.six.closed) ends.snapshot_is in
-        let tail_is = ap (λ (s : Snapshot). s.six.tail) ends.snapshot_is in
-        one.words a (omega (arith, unclosed, closed_is)) (omega (arith, below, tail_is));
-    pages = λ i page q far at flushed.
-        let n = length (oks outs) in
-        let t = from_on (FlushesTaken Took log.sizes) n riders r.images i q (omega (arith, far, count_is)) at page flushed in
-        (t.0, t.1, λ k v there. one.pages i page k v t.0 q at t.2 there);
+    all = of_all.all;
+    one = of_all.one;
+    each = λ i out at. thread_acts F Returns Took log may_cut log.riders outs riders r i out (acts_by i of_all.all) at (λ q there. of_all.each i q (lt-ltb i (length outs) (within outs i out at)) there);
+    theirs = every_weaker (λ (t : ActBy). ltb t.thread (length outs) ≡ true) (λ (t : ActBy). t.thread < length outs) of_all.all (λ t first. ltb-true t.thread (length outs) first) of_all.theirs;
+    holds = held_of_all F log.sizes Took riders ending ends (λ i. ltb i (length outs)) page_some frames_some threads crew;
   }
 
 pub threads_are_one : {Out : Type 0} (F : Type 0) (Returns : ℕ → SessionState → SessionState → Out → Type 0) (Took : ℕ → List ℕ → Type 0) → ThreadsAreOne F Returns Took
 threads_are_one F Returns Took log may_cut outs riders ending page_some frames_some r ends = are_one F Returns Took log may_cut outs riders ending page_some frames_some r ends
+
+-- so it is with what a log's threads left that was closed
+pub closed_trace : {Out : Type 0} (F : Type 0) (o : Opening Sizes) (may_cut : Bool) (Returns : ℕ → SessionState → SessionState → Out → Type 0) (Took : ℕ → List ℕ → Type 0) (riders : List RiderState) (results : Result (Vec (Result Out Fault) Global) Fault) (ending : Result (EndingState F) Fault) → AreInRange o.params
+    → AreAllReturned F (opened_as o) may_cut Returns Took results riders
+    → MatchResult ending (λ ending. (length riders ≡ o.riders) × IsEnding o.params riders ending) (λ fault. (fault ≡ Stranger o.stamp) × (length riders ≢ o.riders))
+    → HaveOneTrace F o.params Returns Took results ending
+closed_trace F o may_cut Returns Took riders (Ok results) (Ok ending) range all ends = λ outs are.
+    threads_are_one F Returns Took (opened_as o) may_cut outs riders ending (omega (arith, range.page_size_least)) (omega (arith, range.frames_least)) (subst (λ l. AllReturned F (opened_as o) may_cut Returns Took l riders) are all) ends.1
+closed_trace F o may_cut Returns Took riders (Ok results) (Err fault) range all ends = tt
+closed_trace F o may_cut Returns Took riders (Err fault) ending range all ends = tt

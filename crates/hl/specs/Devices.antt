@@ -1,5 +1,5 @@
 -- What the page writers of a log with threads have.
-use Rattle.std.specs.Prelude.{◌≡◌, ◌⊎◌, ℕ, Option, Some, None, List}
+use Rattle.std.specs.Prelude.{◌≡◌, ◌≢◌, ◌⊎◌, ℕ, Option, Some, None, List}
 use Rattle.hl_image.specs.Pages.{Pages, image_at}
 use Rattle.hl.specs.declared.memory.MemoryDevice.{MemoryDevice}
 
@@ -7,6 +7,11 @@ use Rattle.hl.specs.declared.memory.MemoryDevice.{MemoryDevice}
 abbrev pub on_memory : MemoryDevice → ℕ → List ℕ → Type 0
 on_memory device page bytes =
     (image_at page device.first ≡ Some bytes) ⊎ (image_at page device.second ≡ Some bytes)
+
+-- the two writers of a device in memory have different images of the page
+abbrev pub Differs : MemoryDevice → ℕ → Type 0
+Differs device page = (first second : List ℕ) × (image_at page device.first ≡ Some first)
+    × (image_at page device.second ≡ Some second) × (first ≢ second)
 
 -- so it is, if there is such a device; and if there is none, this holds
 abbrev pub device_has : (ℕ → List ℕ → Type 0) → Option MemoryDevice → ℕ → List ℕ → Type 0

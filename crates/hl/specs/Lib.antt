@@ -17,3 +17,5 @@ pub mod Sessions
 pub mod Traces
 pub mod Waits
 pub mod Threads
+pub mod Left
+pub mod Uses

@@ -1,6 +1,8 @@
 -- What the threads of a log did is one trace, and memory and device show what it leaves.
-use Rattle.std.specs.Prelude.{ℕ, ◌≡◌, ◌<◌, ◌≤◌, ◌+◌, ◌*◌, Bool, true, Ok, Some, List, ◌++◌, length, map, slice_get, slice_index}
+use Rattle.std.specs.Prelude.{ℕ, ◌≡◌, ◌<◌, ◌≤◌, ◌*◌, Bool, Result, Ok, Some, IfOk, List, ◌++◌, length, map, slice_get, slice_index, Vec}
 use Rattle.std.specs.List.{AllByRecursion}
+use Rattle.std.specs.declared.alloc.Global.{Global}
+use Rattle.hl_model.specs.declared.fault.Fault.{Fault}
 use Rattle.hl_model.specs.Sizes.{Sizes}
 use Rattle.hl_words.specs.States.{RiderState}
 use Rattle.hl_keeper.specs.Endings.{EndingState}
@@ -8,9 +10,10 @@ use Rattle.hl_keeper.specs.Passes.{cell_at}
 use Rattle.hl_domain.specs.Domains.{DomainState, IsEnding}
 use Rattle.hl_image.specs.Image.{image}
 use Rattle.hl_memory.specs.declared.act.Act.{Act}
-use Rattle.hl_memory.specs.OneTrace.{ActBy, acts_by, left_at, AreOne}
-use Rattle.hl_crew.specs.Riders.{has_flushed}
+use Rattle.hl_memory.specs.OneTrace.{ActBy, acts_by, left_at, page_left, AreOne}
+use Rattle.hl.specs.declared.finished.Finished.{Finished}
 use Rattle.hl.specs.Closings.{AllReturned}
+use Rattle.hl.specs.LastSession.{Finishing}
 use Rattle.hl.specs.Sessions.{SessionState}
 use Rattle.hl.specs.Traces.{acts, AreMet, IsFresh}
 
@@ -25,22 +28,28 @@ pub record ThreadActs {Out : Type 0} (Returns : SessionState → SessionState �
   pub met : AreMet left
   pub own_is : own ≡ left ++ acts last
 
+-- At a log's end memory and device have what these acts leave: memory the words from the closed offset to the tail, the
+-- device each page below the flushed offset, of whose image so much holds; and no word is in neither. At the tail and beyond
+-- nothing was stored
+pub record HoldsTrace {F : Type 0} (sizes : Sizes) (Took : ℕ → List ℕ → Type 0) (ending : EndingState F)
+    (all : List ActBy) : Type 0 where
+  pub words : (a : ℕ) → ending.snapshot.six.closed ≤ a → a < ending.snapshot.six.tail
+      → slice_index ending.words.words (cell_at sizes a) ≡ left_at a all
+  pub pages : (page : ℕ) → page * sizes.page_size < ending.snapshot.six.flushed
+      → Took page (image page (page_left sizes page all))
+  pub kept : ending.snapshot.six.closed ≤ ending.snapshot.six.flushed
+  pub beyond : (a : ℕ) → ending.snapshot.six.tail ≤ a → left_at a all ≡ 0
+
 -- All that threads did which returned these, in one order: each load and each change found what the newest store before it
--- at its very address left. At the end the words from the closed offset to the tail are what it leaves there, and so are
--- the words of each page that a rider of the crew flushed: of their image so much holds
+-- at its very address left. At the end memory and device have what it leaves
 pub record AreOneTrace {Out : Type 0} (F : Type 0) (sizes : Sizes)
     (Returns : ℕ → SessionState → SessionState → Out → Type 0) (Took : ℕ → List ℕ → Type 0) (outs : List Out)
-    (riders : List RiderState) (ending : EndingState F) : Type 0 where
+    (ending : EndingState F) : Type 0 where
   pub all : List ActBy
   pub one : AreOne all
   pub each : (i : ℕ) (out : Out) → slice_get outs i ≡ Some out → ThreadActs (Returns i) (acts_by i all) out
   pub theirs : AllByRecursion (λ t. t.thread < length outs) all
-  pub words : (a : ℕ) → ending.snapshot.six.closed ≤ a → a < ending.snapshot.six.tail
-      → slice_index ending.words.words (cell_at sizes a) ≡ left_at a all
-  pub pages : (i page : ℕ) (r : RiderState) → length outs ≤ i → slice_get riders i ≡ Some r
-      → has_flushed page r.calls ≡ true
-      → (words : List ℕ) × Took page (image page words)
-      × ((k v : ℕ) → slice_get words k ≡ Some v → v ≡ left_at (page * sizes.page_size + k) all)
+  pub holds : HoldsTrace sizes Took ending all
 
 -- So it is where each thread of a log returned a value, and the log was closed
 abbrev pub ThreadsAreOne : {Out : Type 0} → (F : Type 0) → (ℕ → SessionState → SessionState → Out → Type 0)
@@ -48,4 +57,24 @@ abbrev pub ThreadsAreOne : {Out : Type 0} → (F : Type 0) → (ℕ → SessionS
 ThreadsAreOne {Out} F Returns Took = (log : DomainState) (may_cut : Bool) (outs : List Out)
     (riders : List RiderState) (ending : EndingState F) → 0 < log.sizes.page_size → 0 < log.sizes.frames
     → AllReturned F log may_cut Returns Took (map (λ out. Ok out) outs) riders
-    → IsEnding log.sizes riders ending → AreOneTrace F log.sizes Returns Took outs riders ending
+    → IsEnding log.sizes riders ending → AreOneTrace F log.sizes Returns Took outs ending
+
+-- if results and ending are there, and each thread returned a value, all that they did is one trace
+abbrev pub HaveOneTrace : {Out : Type 0} → (F : Type 0) → Sizes
+    → (ℕ → SessionState → SessionState → Out → Type 0) → (ℕ → List ℕ → Type 0)
+    → Result (Vec (Result Out Fault) Global) Fault → Result (EndingState F) Fault → Type 0
+HaveOneTrace {Out} F sizes Returns Took results ending = IfOk results (λ results. IfOk ending (λ ending.
+    (outs : List Out) → results.items ≡ map (λ out. Ok out) outs
+    → AreOneTrace F sizes Returns Took outs ending))
+
+-- The same with the session that finished: its acts stand under the number behind those of the threads
+pub record FinishedTrace {Out F : Type 0} (sizes : Sizes)
+    (Returns : ℕ → SessionState → SessionState → Out → Type 0) (Took : ℕ → List ℕ → Type 0)
+    (Finishes : SessionState → SessionState → Out → Type 0) (finished : Finished Out F) : Type 0 where
+  pub all : List ActBy
+  pub one : AreOne all
+  pub each : (i : ℕ) (out : Out) → slice_get finished.outs.items i ≡ Some out
+      → ThreadActs (Returns i) (acts_by i all) out
+  pub finish : ThreadActs (Finishing Finishes) (acts_by (length finished.outs.items) all) finished.last
+  pub theirs : AllByRecursion (λ t. t.thread ≤ length finished.outs.items) all
+  pub holds : HoldsTrace sizes Took finished.ending all

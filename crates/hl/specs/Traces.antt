@@ -1,12 +1,13 @@
 -- What a thread did in its session, by address.
-use Rattle.std.specs.Prelude.{◌≡◌, ◌⊎◌, ℕ, ◌+◌, ◌<◌, ◌≤◌, true, false, Result, Ok, Err, MatchResult, List, [], ◌∷◌, ◌++◌, length, take}
+use Rattle.std.specs.Prelude.{◌≡◌, ◌⊎◌, ℕ, ◌<◌, ◌≤◌, true, false, Result, Ok, Err, MatchResult, List, [], ◌∷◌, ◌++◌, length, take}
 use Rattle.std.specs.List.{AllByRecursion, flat_map}
 use Rattle.hl_model.specs.declared.fault.Fault.{Fault}
 use Rattle.hl_words.specs.States.{RiderState}
 use Rattle.hl_domain.specs.Domains.{DomainState, stays_current}
 use Rattle.hl_keeper.specs.Passes.{PassRecord}
 use Rattle.hl_memory.specs.declared.act.Act.{Act}
-use Rattle.hl_memory.specs.declared.act.Act.TheVariants.{Placed, Stored, Loaded, Changed, Met}
+use Rattle.hl_memory.specs.declared.act.Act.TheVariants.{Placed, Loaded, Changed, Met}
+use Rattle.hl_memory.specs.Records.{stores_from}
 use Rattle.hl_memory.specs.Traces.{trace, PassDoes, RiderDoes}
 use Rattle.hl.specs.declared.refused.Refused.{Refused}
 use Rattle.hl.specs.Sessions.{SessionState}
@@ -48,16 +49,6 @@ if_ok own (Err e) = []
 abbrev pub exchanged : ℕ → ℕ → Result ℕ ℕ → List Act
 exchanged a new (Ok found) = Changed a found new ∷ []
 exchanged a new (Err found) = Loaded a found ∷ []
-
--- loads of these words from an address on, on top of others
-abbrev pub loads_from : ℕ → List ℕ → List Act → List Act
-loads_from a [] before = before
-loads_from a (w ∷ ws) before = loads_from (a + 1) ws (Loaded a w ∷ before)
-
--- stores of these words from an address on, on top of others
-abbrev pub stores_from : ℕ → List ℕ → List Act → List Act
-stores_from a [] before = before
-stores_from a (w ∷ ws) before = stores_from (a + 1) ws (Stored a w ∷ before)
 
 -- acts without the locked calls
 abbrev pub without_met : List Act → List Act

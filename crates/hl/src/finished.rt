@@ -1,14 +1,15 @@
 //! A log that threads use beside a crew, and one session more, opened and closed by one call, with one result.
-ghost use Rattle.std.specs.Prelude.{◌≡◌, ◌+◌, ◌<◌, ◌≤◌, [], length, map, vec_len, vec_capacity, true, false, Ok, Err, is_some, MatchResult};
+ghost use Rattle.std.specs.Prelude.{◌≡◌, ◌+◌, ◌<◌, ◌≤◌, [], length, map, vec_len, vec_capacity, true, false, Ok, Err, is_some, IfOk, MatchResult};
 ghost use Rattle.hl_model.specs.declared.fault.Fault.TheVariants.{Size};
 ghost use Rattle.hl_words.specs.States.{IsSeedOf};
 ghost use Rattle.hl_memory.specs.Traces.{RiderTraces};
 ghost use Rattle.hl_crew.specs.Limited.{duty_cuts};
 ghost use Rattle.hl.specs.Closings.{Tells};
-ghost use Rattle.hl.specs.Configs.{all_fit, cuts_of, opening_of};
+ghost use Rattle.hl.specs.Configs.{all_fit, cuts_of, opening_of, sizes_of_config};
 ghost use Rattle.hl.specs.LastSession.{AreFinished, Finishing, IsFinish, IsFirstFault, IsNoFinish, IsUnfinished};
 ghost use Rattle.hl.specs.Openings.{IsInRange};
 ghost use Rattle.hl.specs.Sessions.{without_crew};
+ghost use Rattle.hl.specs.Threads.{FinishedTrace};
 
 use crate::config::Config;
 use crate::log::Log;
@@ -40,6 +41,9 @@ pub struct Finished<T, F: Task = NoJob> {
 /// Opens a log, runs its threads beside a crew as [`with_threads`](crate::with_threads) does, calls `Work::finish`
 /// once they have ended, and closes the log. What they returned comes back with the ending, in one result.
 ///
+/// All that the threads and `finish` did is one trace, as [`with_threads`](crate::with_threads) says, in which the acts of
+/// `finish` stand under the number behind those of the threads (`FinishedTrace`).
+///
 /// Faults, the first of these: `Size` if a number of the configuration is out of its range, and nothing was done;
 /// `OutOfMemory` if memory or a thread was refused, before the threads ran or after; the fault by which the first of
 /// the threads that have no result was refused its session, or couldn't leave it (`JournalFull` at each of 1,001 tries,
@@ -57,6 +61,8 @@ pub fn run_threads<R: Threads + Wait + Sync, P: Work<R> + Sync>(
         (P.finishes work.now))
         (IsUnfinished P.Job (opening_of config) (cuts_of config) (P.returns work.now) (P.took work.now)
         (P.finishes work.now)) }
+    ensures one { all_fit config ≡ true → IfOk result (FinishedTrace (sizes_of_config config)
+        (P.returns work.now) (P.took work.now) (P.finishes work.now)) }
 {
     let (opening, duty) = match config.checked() {
         Ok(both) => both,

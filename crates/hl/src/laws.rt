@@ -3,6 +3,7 @@
 ghost use Rattle.hl.specs.Evictions.{EvictedWereFlushed, LoadedEvictedWereFlushed};
 ghost use Rattle.hl.specs.Overs.{OverWereDone};
 ghost use Rattle.hl.specs.Threads.{ThreadsAreOne};
+ghost use Rattle.hl.specs.Uses.{AppendsMore, CountersEndAsSums, ThreadsAppend};
 ghost use Rattle.hl.specs.Waits.{SafeAfterAllMovedOn};
 
 use crate::work::Work;
@@ -37,11 +38,30 @@ pub fn over_were_done()
     ensures { OverWereDone }
 {}
 
-/// What the threads of a work did is one trace, if each returned a value and the log was closed
-/// ([`with_threads`](crate::with_threads), [`with_memory`](crate::with_memory)): a list of plain acts, of each thread just
-/// its own, in its order. Each load, and each change, found what the newest store before it at that very address left, or
-/// 0. No two records share an address. The words in memory at the end, from the closed offset to the tail, are what the
-/// list leaves there; and so are those of each page that the crew flushed, whose image the device took.
+/// What the threads of a work did is one trace, if each returned a value and the log was closed: a list of plain acts, of
+/// each thread just its own, in its order. Each load, and each change, found what the newest store before it at that very
+/// address left, or 0. No two records share an address. The words in memory at the end, from the closed offset to the tail,
+/// are what the list leaves there; and so are those of each page below the flushed offset, whose image the device took.
+/// [`with_threads`](crate::with_threads) and [`with_memory`](crate::with_memory) say so of their own results.
 pub fn threads_are_one<R: Wait, P: Work<R>>(_work: &P)
     ensures { ThreadsAreOne P.Job (P.returns _work.now) (P.took _work.now) }
+{}
+
+/// A counter that all threads of a work only add to ends as the sum of what they say that they added, modulo 2^64, wherever
+/// it lies: `total` takes that of what a thread returned, and `returns` says of its acts that they added so much at the
+/// counter's address, and did nothing else there. What it ends as [`word_left`](crate::word_left) reads.
+pub fn counters_end_as_sums<R: Wait, P: Work<R>>(_work: &P)
+    ensures { CountersEndAsSums (P.returns _work.now) }
+{}
+
+/// An append is appends of records: a session that appended some, and placed and stored nothing else, appended more then, of
+/// which the newest is the whole record that was answered; the others are those that were placed in vain.
+pub fn appends_more()
+    ensures { AppendsMore }
+{}
+
+/// All that the threads of a work did is appends of records, where `returns` says so of each: then what it appended is read
+/// by everybody as it was appended, by the laws of [`hl_memory`](hl_memory::laws) on records.
+pub fn threads_append<R: Wait, P: Work<R>>(_work: &P)
+    ensures { ThreadsAppend (P.returns _work.now) }
 {}

@@ -1,11 +1,13 @@
 //! A log with threads whose device is memory.
-ghost use Rattle.std.specs.Prelude.{◌≡◌, true, false, Some, is_some, Err, IfOk, IfErr, IfSome};
+ghost use Rattle.std.specs.Prelude.{◌≡◌, ◌⊎◌, ℕ, List, true, false, Some, None, is_some, is_none, Err, IfOk, IfErr, IfSome};
 ghost use Rattle.std.specs.Option.{option_copied};
 ghost use Rattle.hl_model.specs.declared.fault.Fault.TheVariants.{OutOfMemory, Size};
 ghost use Rattle.hl_image.specs.Pages.{image_at, opened};
 ghost use Rattle.hl.specs.Closings.{AreWritten, IsClosed};
 ghost use Rattle.hl.specs.Crews.{can_run};
+ghost use Rattle.hl.specs.Devices.{on_memory, Differs};
 ghost use Rattle.hl.specs.Openings.{of_sizes, opened_as};
+ghost use Rattle.hl.specs.Threads.{HaveOneTrace};
 
 use crate::open::Closed;
 use crate::opening::Opening;
@@ -49,6 +51,20 @@ impl MemoryDevice {
         (self.first.image(page), self.second.image(page))
     }
 
+    /// The image of a page: `None` if no writer has written it, or if both have and their images differ.
+    pub fn image(&self, page: u64) -> Option<&[u8]>
+        ensures same { IfSome result (λ image. (bytes : List ℕ) → on_memory self.now page bytes
+            → image.now ≡ bytes) }
+        ensures none { is_none result ≡ true → ((image_at page self.now.first ≡ None)
+            × (image_at page self.now.second ≡ None)) ⊎ Differs self.now page }
+    {
+        match self.images(page) {
+            (Some(first), Some(second)) => { if first == second { Some(first) } else { None } }
+            (Some(first), None) => Some(first),
+            (None, second) => second,
+        }
+    }
+
     /// Its two writers, if there is a device.
     pub(crate) fn into_parts(
         device: Option<MemoryDevice>,
@@ -89,8 +105,8 @@ pub struct Written<T> {
 }
 
 /// The same as [`with_threads`](crate::with_threads), with a device in memory, which comes back with what it has. The
-/// pages go to it, and the work's own `write_page` isn't called. Each page that the crew flushed is there, as an image
-/// of words that are the page's, by `hl_images::laws::flushed_is_imaged`.
+/// pages go to it, and the work's own `write_page` isn't called. Each page below the flushed offset is there, with the words
+/// that the threads' one trace leaves.
 ///
 /// A page beyond the device's last can't be written, and is tried again and again: the log then runs out of frames.
 ///
@@ -109,6 +125,8 @@ pub fn with_memory<R: Threads + Wait + Sync, P: Work<R> + Sync, S: HasSizes>(
     ensures closed { let o = of_sizes S.sizes_of opening
         in IfOk result (IsClosed o
         (AreWritten P.Job (opened_as o) (is_some duty.cut_above) (P.returns work.now))) }
+    ensures one { IfOk result (λ closed. HaveOneTrace P.Job (S.sizes_of opening.params)
+        (P.returns work.now) (on_memory closed.out.device) closed.out.outs closed.ending) }
 {
     let shared = Shared {
         rt,

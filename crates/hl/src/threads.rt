@@ -1,10 +1,12 @@
 //! A log that threads use beside a crew, opened and closed by one call.
 ghost use Rattle.std.specs.Prelude.{◌≡◌, ◌≤◌, true, false, is_some, Err, IfOk, IfErr};
 ghost use Rattle.hl_model.specs.declared.fault.Fault.TheVariants.{OutOfMemory, Size};
+ghost use Rattle.hl_model.specs.Sizes.{AreInRange};
 ghost use Rattle.hl_words.specs.States.{IsSeedOf};
 ghost use Rattle.hl.specs.Openings.{of_sizes, opened_as, IsInRange};
 ghost use Rattle.hl.specs.Crews.{can_run};
 ghost use Rattle.hl.specs.Closings.{AreAllReturned, AreLeft, IsClosed};
+ghost use Rattle.hl.specs.Threads.{HaveOneTrace};
 
 use crate::log::Log;
 use crate::memory::MemoryDevice;
@@ -34,9 +36,11 @@ use std::thread::Threads;
 /// ([`leave_by_tries`](crate::Session::leave_by_tries)): a thread loses its result only if the last try finds no room
 /// either, as where others fill the journal each time. By another duty a leave is tried once, and cuts nothing.
 ///
-/// The crew's riders stored into cells only to sweep pages that their calls took to clean: if no page was closed, the
-/// threads alone changed words. Of each page that they flushed `Work::took` says that the device took its image, and the
-/// words of that image are the page's, by `hl_images::laws::flushed_is_imaged`.
+/// If each thread returned a value and the ending is there, **all that the threads did is one trace** (`HaveOneTrace`): one
+/// list of plain [`Act`](hl_memory::Act)s, of each thread just its own, in its order. Each load, and each change, found what
+/// the newest store before it at that very address left, or 0; no two records share an address. At the end the words in
+/// memory, from the closed offset to the tail, are what the list leaves there, and the device took the image of each page
+/// below the flushed offset, with the words that the list leaves.
 ///
 /// If the crew's own thread can't be made, the riders work without a crew, and it serves after them: a rider that waits
 /// for a frame then waits for good.
@@ -58,6 +62,8 @@ pub fn with_threads<R: Threads + Wait + Sync, P: Work<R> + Sync, S: HasSizes>(
     ensures closed { let o = of_sizes S.sizes_of opening
         in IfOk result (IsClosed o (AreAllReturned P.Job (opened_as o) (is_some duty.cut_above)
         (P.returns work.now) (P.took work.now))) }
+    ensures one { IfOk result (λ closed. HaveOneTrace P.Job (S.sizes_of opening.params)
+        (P.returns work.now) (P.took work.now) closed.out closed.ending) }
 {
     let shared = Shared {
         rt,
@@ -84,6 +90,7 @@ impl<R: Threads + Wait + Sync, P: Work<R> + Sync> Shared<'_, R, P> {
         ensures closed { IfOk result (IsClosed opening (AreLeft P.Job (opened_as opening)
             (is_some self.now.duty.cut_above) (P.returns self.now.work.now) (P.took self.now.work.now)
             opening.riders)) }
+        ensures sizes { AreInRange opening.params }
     {
         if !has_room(&opening, self.duty) {
             return Err(Fault::Size);
@@ -133,6 +140,8 @@ fn has_room(opening: &Opening<Sizes>, duty: Duty) -> bool
     ensures range { result ≡ true → IsInRange opening.now }
     ensures four { result ≡ true → 4 ≤ opening.now.riders }
     ensures duty { result ≡ true → duty.frames ≡ opening.now.params.frames }
+    ensures sizes { AreInRange opening.now.params }
 {
-    opening.is_in_range() && 4 <= opening.riders && duty.frames() == opening.params.frames()
+    let frames = opening.params.frames();
+    opening.is_in_range() && 4 <= opening.riders && duty.frames() == frames
 }

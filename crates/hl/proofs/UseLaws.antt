@@ -1,0 +1,77 @@
+-- What follows from one trace for common wants.
+use Rattle.std.proofs.Common.{◌≡◌, ℕ, zero, suc, ◌<◌, ◌≤◌, true, ltb, le-ltb, List, [], ◌∷◌, ◌++◌, Option, Some, None, slice_get, length, map, refl, ap, sym, ◌∙◌, subst, arith}
+use Rattle.std.specs.List.{AllByRecursion as Every}
+use Rattle.std.proofs.lemmas.Bool.{lt-ltb}
+use Rattle.hl_words.proofs.Cut.{every_weaker}
+use Rattle.hl_memory.specs.declared.act.Act.{Act}
+use Rattle.hl_memory.specs.Counters.{AddsAt}
+use Rattle.hl_memory.specs.OneTrace.{ActBy, acts_by}
+use Rattle.hl_memory.specs.Records.{Appended, changes, AppendsOnly, AllAppend}
+use Rattle.hl_memory.proofs.BeyondLaws.{none_of_other}
+use Rattle.hl_memory.proofs.CounterLaws.{counters_are_sums}
+use Rattle.hl.specs.Sessions.{SessionState}
+use Rattle.hl.specs.Threads.{ThreadActs}
+use Rattle.hl.specs.Traces.{acts, AreMet, IsFresh}
+use Rattle.hl.specs.Uses.{CountersEndAsSums, HasWhole, ThreadsAppend}
+use Rattle.hl.proofs.AppendActs.{changes_both, changes_met}
+
+-- locked calls add nothing
+met_adds : (a total : ℕ) (left own : List Act) → AreMet left → AddsAt a total own → AddsAt a total (left ++ own)
+met_adds a total [] own met adds = adds
+met_adds a total (act ∷ left) own met adds =
+    let rest = met_adds a total left own met.1 adds in
+    subst (λ (x : Act). AddsAt a total (x ∷ (left ++ own))) (sym met.0.1) rest
+
+mapped_long : {X : Type 0} (f : X → ℕ) (xs : List X) → length (map f xs) ≡ length xs
+mapped_long f [] = refl
+mapped_long f (x ∷ xs) = ap suc (mapped_long f xs)
+
+mapped_at : {X : Type 0} (f : X → ℕ) (xs : List X) (i n : ℕ) → slice_get (map f xs) i ≡ Some n → (x : X) × (slice_get xs i ≡ Some x) × (f x ≡ n)
+mapped_at f [] i n at = absurd (cc at)
+mapped_at f (x ∷ xs) zero n at = (x, refl, (let e = at in cc))
+mapped_at f (x ∷ xs) (suc i) n at = mapped_at f xs i n at
+
+pub counters_end_as_sums : {Out : Type 0} (Returns : ℕ → SessionState → SessionState → Out → Type 0) → CountersEndAsSums Returns
+counters_end_as_sums {Out} Returns all outs a total one theirs each adds =
+    counters_are_sums all a (map total outs) one
+    (subst (λ n. Every (λ (t : ActBy). t.thread < n) all) (sym (mapped_long total outs)) theirs)
+    (λ i n at.
+    let x = mapped_at total outs i n at in
+    let t = each i x.0 x.1 in
+    let own = adds i t.first t.last x.0 t.fresh t.ran in
+    subst (λ (l : List Act). AddsAt a n l) (sym t.own_is) (subst (λ m. AddsAt a m (t.left ++ acts t.last)) x.2 (met_adds a (total x.0) t.left (acts t.last) t.met own)))
+
+-- locked calls change nothing
+met_changes : (left own : List Act) → AreMet left → changes (left ++ own) ≡ changes own
+met_changes left own met = changes_both left own ∙ ap (λ (l : List Act). l ++ changes own) (changes_met left met)
+
+beyond_none : {X : Type 0} (xs : List X) (i : ℕ) → slice_get xs i ≡ None → length xs ≤ i
+beyond_none [] i at = omega arith
+beyond_none (x ∷ xs) zero at = absurd (cc at)
+beyond_none (x ∷ xs) (suc i) at = omega (arith, beyond_none xs i at)
+
+module _ {Out : Type 0} (Returns : ℕ → SessionState → SessionState → Out → Type 0) (all : List ActBy) (outs : List Out) (entries : Out → List (ℕ × List ℕ)) (theirs : Every (λ (t : ActBy). t.thread < length outs) all)
+    (each : (i : ℕ) (out : Out) → slice_get outs i ≡ Some out → ThreadActs (Returns i) (acts_by i all) out)
+    (told : (i : ℕ) (first last : SessionState) (out : Out) → IsFresh first → Returns i first last out → (records : List Appended) × AppendsOnly records (acts last) × HasWhole records (entries out)) where
+  -- who has no result did nothing
+  no_acts : (i : ℕ) → length outs ≤ i → acts_by i all ≡ []
+  no_acts i far =
+      none_of_other (λ t. ltb t (length outs)) i all (le-ltb i (length outs) far)
+      (every_weaker (λ (t : ActBy). t.thread < length outs) (λ (t : ActBy). ltb t.thread (length outs) ≡ true) all (λ t less. lt-ltb t.thread (length outs) less) theirs)
+
+  -- the records of one
+  of_one : (i : ℕ) (o : Option Out) → slice_get outs i ≡ o → (records : List Appended) × AppendsOnly records (acts_by i all) × ((out : Out) → o ≡ Some out → HasWhole records (entries out))
+  of_one i None at = ([], ap changes (no_acts i (beyond_none outs i at)), λ out e. absurd (cc e))
+  of_one i (Some one) at =
+      let t = each i one at in
+      let r = told i t.first t.last one t.fresh t.ran in (
+        r.0,
+        ap changes t.own_is ∙ met_changes t.left (acts t.last) t.met ∙ r.1,
+        λ out e. let same : one ≡ out = cc e in subst (λ (o : Out). HasWhole r.0 (entries o)) same r.2,
+      )
+
+  pub all_append : (records : ℕ → List Appended) × AllAppend records all × ((i : ℕ) (out : Out) → slice_get outs i ≡ Some out → HasWhole (records i) (entries out))
+  all_append = (λ i. (of_one i (slice_get outs i) refl).0, λ i. (of_one i (slice_get outs i) refl).1, λ i out at. (of_one i (slice_get outs i) refl).2 out at)
+
+pub threads_append : {Out : Type 0} (Returns : ℕ → SessionState → SessionState → Out → Type 0) → ThreadsAppend Returns
+threads_append Returns all outs entries theirs each told = all_append Returns all outs entries theirs each told
