@@ -1,6 +1,2 @@
-pub mod CounterLaws
-pub mod CleanLaws
-pub mod SessionLaws
-pub mod FlushLaws
-pub mod DeviceLaws
+pub mod AddLaws
 pub mod CountedLaws
