@@ -57,8 +57,7 @@ loads_at a (x ∷ ws) zero w base e =
     (f.0, [], f.1 ∙ ap (λ (v : ℕ). f.0 ++ Loaded a v ∷ base) same ∙ ap (λ (b : ℕ). f.0 ++ Loaded b w ∷ base) at)
 loads_at a (x ∷ ws) (suc l) w base e =
     let f = loads_at (a + 1) ws l w (Loaded a x ∷ base) e in
-    let at : a + 1 + l ≡ a + suc l = omega arith in
-    (
+    let at : a + 1 + l ≡ a + suc l = omega arith in (
       f.0,
       f.1 ++ Loaded a x ∷ [],
       f.2 ∙ ap (λ (b : ℕ). f.0 ++ Loaded b w ∷ (f.1 ++ Loaded a x ∷ base)) at ∙ ap (λ (z : List Act). f.0 ++ Loaded (a + suc l) w ∷ z) (sym (append_assoc f.1 (Loaded a x ∷ []) base)),

@@ -38,6 +38,10 @@
 //! only sweep, copy and answer (`Serves`), all acts are one trace (`TracesAreOne`): no touch, call or slot is named in
 //! what it says.
 //!
+//! What follows from one trace alone, for who uses a log: a word that all threads only add to ends as the sum
+//! (`CountersAreSums`); and of threads that append records, and store nothing else, each record is read by everybody as
+//! it was appended (`RecordsAreApart`, `RecordsStay`, `RecordsAreRead`, `RecordsAreWhole`).
+//!
 //! Nothing is said of loads outside a pass that are no copy of a page. All laws are in [`laws`].
 #![tactic(auto)]
 
