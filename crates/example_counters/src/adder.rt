@@ -1,8 +1,6 @@
 //! What one thread does in its session: it places a record of the counters' length, and adds its numbers.
-ghost use Rattle.std.specs.Prelude.{◌<◌, ◌≤◌, List};
 ghost use Rattle.hl.specs.Traces.{acts, IsFresh};
 ghost use Rattle.example_counters.specs.Counters.{AddsEach, AddsNothing, AddsOne};
-ghost use Rattle.example_counters.specs.declared.TheConstants.{COUNTERS};
 
 use crate::{Add, COUNTERS, Sums};
 use hl::{Realm, Session};

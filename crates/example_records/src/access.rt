@@ -3,15 +3,13 @@ ghost use Rattle.std.specs.Prelude.{IfOk, IfSome};
 ghost use Rattle.hl.specs.Traces.{acts};
 ghost use Rattle.example_records.specs.Records.{AddsTold, IsRead, KeepsTold, LoadedOn};
 
+use crate::record::LONGEST;
 use hl::{Cure, Fault, Helping, Realm, Session, laws};
 use std::alloc::Global;
 use std::sync::Wait;
 
 /// How often a record is tried to be appended: its frame may have to be freed first.
 const TRIES: u32 = 1_000_000;
-
-/// The longest record: a page has at most so many words.
-const LONGEST: u64 = 1 << 20;
 
 /// Appends a record of these words, with help for the log between two tries. Returns its address, or `None` if it was refused
 /// for good.

@@ -38,7 +38,7 @@ pub struct Storage<S> {
 /// when it had left memory. Each record that was read, by a thread or at the end, is the record that was appended at its
 /// address.
 ///
-/// That a record is appended, or found, is not proved.
+/// That a record is appended, or found, is not proved: what is not read is not spoken of.
 ///
 /// Faults: those of [`with_memory`]; `OutOfMemory`.
 pub fn keep<R: Threads + Wait + Sync, S: HasSizes>(

@@ -3,12 +3,10 @@ ghost use Rattle.std.specs.Prelude.{◌≡◌, ◌*◌, IfOk, IfSome};
 ghost use Rattle.hl.specs.Left.{IsLeft};
 ghost use Rattle.example_records.specs.Records.{AreLate, IsLate};
 
+use crate::record::LONGEST;
 use crate::storing::{Entry, Report};
 use hl::{AnyAnswer, Ending, Fault, MemoryDevice, NoJob, Sizes, word_left};
 use std::alloc::Global;
-
-/// The longest record: a page has at most so many words.
-const LONGEST: u64 = 1 << 20;
 
 /// What is left of a log.
 #[derive(Clone, Copy)]

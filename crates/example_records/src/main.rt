@@ -1,5 +1,5 @@
-//! A log store: threads append records of any length up to a page, and read each other's, from memory or, once a record has
-//! left memory, from the log's device.
+//! A log store: threads append records of any length up to a page, and read each other's from memory. What has left memory
+//! when a thread wants it, and all that was appended, is read once the log is closed, from memory or from its device.
 //!
 //! | Module | What it has |
 //! |---|---|
@@ -9,8 +9,8 @@
 //! | `keeping` | the log opened, its threads run, and all read at the end; the theorem |
 //! | `left` | records read once the log is closed |
 //!
-//! The theorem is a clause of `keeping::keep`: each record that was read is the record that was appended at that address, and
-//! so is each that is read once the log is closed, from memory or from the device.
+//! The theorem is the clause of `keeping::keep`: whatever was read at the address of a record that a thread appended is that
+//! record, read by a thread or at the end.
 #![tactic(auto)]
 
 mod access;

@@ -6,6 +6,9 @@ ghost use Rattle.example_records.specs.Records.{framed, IsFramed};
 use hl::Fault;
 use std::alloc::{AllocError, Global};
 
+/// The longest record: a page has at most so many words.
+pub(crate) const LONGEST: u64 = 1 << 20;
+
 /// What stands behind a record's contents.
 const SEAL: u64 = 1;
 

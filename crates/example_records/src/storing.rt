@@ -1,6 +1,4 @@
 //! What each thread does: it appends its own records, and reads those that others appended.
-ghost use Rattle.std.specs.Prelude.{◌<◌, length};
-ghost use Rattle.std.specs.List.{AllByRecursion};
 ghost use Rattle.hl.specs.Traces.{acts};
 ghost use Rattle.example_records.specs.Records.{Tells};
 

@@ -58,23 +58,23 @@ given_at f a zero k less = absurd (omega (arith, less))
 given_at f a (suc n) zero less = ap (λ x. Some (f x)) (omega arith)
 given_at f a (suc n) (suc k) less = given_at f (a + 1) n k (omega (arith, less)) ∙ ap (λ x. Some (f x)) (omega arith)
 
--- the page of an address that is closed begins below what is flushed
-page_early : (sizes : Sizes) (a : ℕ) → a / sizes.page_size * sizes.page_size + a % sizes.page_size ≡ a
-page_early sizes a =
+-- an address is the first of its page and its place there
+parts_of : (sizes : Sizes) (a : ℕ) → a / sizes.page_size * sizes.page_size + a % sizes.page_size ≡ a
+parts_of sizes a =
     let swap : sizes.page_size * (a / sizes.page_size) ≡ a / sizes.page_size * sizes.page_size = omega arith in
     omega (arith, swap, div-add-mod a sizes.page_size)
 
 -- What is read of a closed address from the device's image of its page
 module _ {F : Type 0} (sizes : Sizes) (device : MemoryDevice) (ending : EndingState F) (a : ℕ) (some : 0 < sizes.page_size) (closed : a < ending.snapshot.six.closed) where
   on_device : (all : List ActBy) → HoldsTrace sizes (on_memory device) ending all → on_memory device (a / sizes.page_size) (image (a / sizes.page_size) (page_left sizes (a / sizes.page_size) all))
-  on_device all holds = holds.pages (a / sizes.page_size) (omega (arith, page_early sizes a, closed, holds.kept))
+  on_device all holds = holds.pages (a / sizes.page_size) (omega (arith, parts_of sizes a, closed, holds.kept))
 
   -- if there is one image
   pub closed_left : (bytes : List ℕ) → ((all : List ℕ) → on_memory device (a / sizes.page_size) all → bytes ≡ all) → IsLeft sizes device ending a (word_in (a % sizes.page_size) bytes)
   closed_left bytes same all holds fits below =
       let page = a / sizes.page_size in
       let place = a % sizes.page_size in
-      let there : slice_get (page_left sizes page all) place ≡ Some (left_at a all) = given_at (λ b. left_at b all) (page * sizes.page_size) sizes.page_size place (mod-lt a some) ∙ ap (λ b. Some (left_at b all)) (page_early sizes a) in
+      let there : slice_get (page_left sizes page all) place ≡ Some (left_at a all) = given_at (λ b. left_at b all) (page * sizes.page_size) sizes.page_size place (mod-lt a some) ∙ ap (λ b. Some (left_at b all)) (parts_of sizes a) in
       inl (ap (word_in place) (same (image page (page_left sizes page all)) (on_device all holds)) ∙ word_read page (page_left sizes page all) place (left_at a all) there fits)
 
   -- if none was told
