@@ -6,8 +6,8 @@ use Rattle.hl_words.proofs.Cut.{every_back}
 use Rattle.hl_words.proofs.Orders.{within}
 use Rattle.hl_memory.specs.declared.act.Act.{Act}
 use Rattle.hl_memory.specs.declared.act.Act.TheVariants.{Placed, Stored, Loaded, Changed, Met}
-use Rattle.hl_memory.specs.OneTrace.{ActBy, by_thread, acts_by, left_at, EndsBelow, Follows, AreOne}
-use Rattle.hl_memory.specs.Records.{Appended, append_acts, AllAppend, RecordsAreApart, RecordsStay, RecordsAreFound, RecordsAreRead, OthersAreZero}
+use Rattle.hl_memory.specs.OneTrace.{ActBy, by_thread, acts_by, left_at, leaves_at, EndsBelow, Follows, AreOne}
+use Rattle.hl_memory.specs.Records.{Appended, append_acts, AllAppend, IsWordOf, RecordsAreApart, RecordsStay, RecordsAreFound, RecordsAreRead, OthersAreZero}
 use Rattle.hl_memory.proofs.AppendLaws.{StoresAt, stores_or_not, passes, LeavesOnly, leaves, Has, every_has, has_changes, every_changes, every_appended, has_word, has_placed, every_records, has_record, Behind, Ordered, ordered_changes, ordered_records, Preceded, preceded_none, preceded_changes, preceded_records, preceded_appended}
 use Rattle.hl_memory.proofs.ThreadLaws.{own_act, other_act, acts_behind, acts_back, acts_upon, acts_onto, every_thread, every_own, one_back}
 
@@ -112,17 +112,16 @@ module _ (all : List ActBy) (records : ℕ → List Appended) (appends : AllAppe
       every_changes (LeavesOnly a v) (λ b w. tt) (λ n. tt) (acts_by j all)
       (subst (Every (LeavesOnly a v)) (sym (appends j)) (every_records (LeavesOnly a v) (records j) (λ q s at. every_appended (LeavesOnly a v) s (each j q s at) tt))))
 
-  -- where no append stores there is 0
-  none_stored : (a : ℕ) → ((i k : ℕ) (r : Appended) → slice_get (records i) k ≡ Some r → (a < r.address) ⊎ (r.address + r.count ≤ a)) → left_at a all ≡ 0
-  none_stored a outside =
-      ⊎_elim (λ (e : left_at a all ≡ 0). e) (λ (e : left_at a all ≡ 0). e)
-      (found_one a 0 all
-      (only_leaves a 0
-      (λ j q s at p w less is here.
-      ⊎_elim
-      (λ (low : a < s.address). absurd (omega (arith, low, here)))
-      (λ (high : s.address + s.count ≤ a). absurd (omega (arith, high, here, less)))
-      (outside j q s at))))
+  -- what a store leaves at an address is a word of a record
+  each_word : (a : ℕ) → Every (λ (t : ActBy). StoresAt a t.act → IsWordOf records a (leaves_at a t.act 0)) all
+  each_word a =
+      let P = λ (x : Act). StoresAt a x → IsWordOf records a (leaves_at a x 0) in
+      every_thread P all
+      (λ j.
+      every_changes P (λ b w at. absurd at) (λ n at. absurd at) (acts_by j all)
+      (subst (Every P) (sym (appends j))
+      (every_records P (records j)
+      (λ q s at. every_appended P s (λ p w less is here. subst (IsWordOf records a) (sym (leaves a w 0 (Stored (s.address + p) w) here (λ _. refl))) (j, q, p, s, at, less, is, here)) (λ e. absurd e)))))
 
   module _ (one : AreOne all) where
     -- of two records of a thread the earlier ends below the later
@@ -247,5 +246,22 @@ records_are_read all records one appends i k m l v r at_r inside le at_l newer b
     rest.0 ∙ found_that h.0 a v between_on only.1 there)
     (stored_before a v b before each)
 
+-- the newest store at an address leaves the same there, whatever was there
+same_left : (a w : ℕ) (x : Act) → StoresAt a x → leaves_at a x w ≡ leaves_at a x 0
+same_left a w (Stored b v) at = leaves a v w (Stored b v) at (λ _. refl) ∙ sym (leaves a v 0 (Stored b v) at (λ _. refl))
+same_left a w (Changed b found v) at = leaves a v w (Changed b found v) at (λ _. refl) ∙ sym (leaves a v 0 (Changed b found v) at (λ _. refl))
+same_left a w (Placed b n) at = absurd at
+same_left a w (Loaded b v) at = absurd at
+same_left a w (Met n) at = absurd at
+
+-- where each store leaves such a word, one is left, or 0
+zero_or : (a : ℕ) (Is : ℕ → Type 0) (all : List ActBy) → Every (λ (t : ActBy). StoresAt a t.act → Is (leaves_at a t.act 0)) all → (left_at a all ≡ 0) ⊎ Is (left_at a all)
+zero_or a Is [] each = inl refl
+zero_or a Is (t ∷ before) each =
+    ⊎_elim
+    (λ (at : StoresAt a t.act). inr (subst Is (sym (same_left a (left_at a before) t.act at)) (each.0 at)))
+    (λ (none : StoresAt a t.act → ⊥). subst (λ (w : ℕ). (w ≡ 0) ⊎ Is w) (sym (passes a (left_at a before) t.act none)) (zero_or a Is before each.1))
+    (stores_or_not a t.act)
+
 pub others_are_zero : OthersAreZero
-others_are_zero all records appends a outside = none_stored all records appends a outside
+others_are_zero all records appends a = zero_or a (IsWordOf records a) all (each_word all records appends a)

@@ -90,8 +90,12 @@ RecordsAreFoundBy = (all : List ActBy) (records : ℕ → List Appended) → Are
     → slice_get r.words m ≡ Some v → acts_by j all ≡ later ++ Loaded (r.address + m) x ∷ base → x ≢ 0
     → x ≡ v
 
--- Where no word of a record was stored there is 0
+-- at this address lies a word that was stored of one of these records, and this is the word
+abbrev pub IsWordOf : (ℕ → List Appended) → ℕ → ℕ → Type 0
+IsWordOf records a v = (i k m : ℕ) × (r : Appended) × (slice_get (records i) k ≡ Some r) × (m < r.count)
+    × (slice_get r.words m ≡ Some v) × (r.address + m ≡ a)
+
+-- Where no word of a record was stored there is 0: each other word that is left is one of a record
 abbrev pub OthersAreZero : Type 0
 OthersAreZero = (all : List ActBy) (records : ℕ → List Appended) → AllAppend records all → (a : ℕ)
-    → ((i k : ℕ) (r : Appended) → slice_get (records i) k ≡ Some r
-    → (a < r.address) ⊎ (r.address + r.count ≤ a)) → left_at a all ≡ 0
+    → (left_at a all ≡ 0) ⊎ IsWordOf records a (left_at a all)

@@ -143,7 +143,8 @@ pub fn records_are_whole()
     ensures { RecordsAreWhole }
 {}
 
-/// At an address at which no word of a record was stored there is 0.
+/// At an address at which no word of a record was stored there is 0: each other word that is left is one that was stored of a
+/// record there.
 pub fn others_are_zero()
     ensures { OthersAreZero }
 {}
