@@ -17,3 +17,5 @@ pub mod WaitLaws
 pub mod LeftLaws
 pub mod UseLaws
 pub mod AppendActs
+pub mod WordsLeft
+pub mod ScanLaws

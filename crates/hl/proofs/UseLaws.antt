@@ -1,18 +1,18 @@
 -- What follows from one trace for common wants.
-use Rattle.std.proofs.Common.{◌≡◌, ℕ, zero, suc, ◌<◌, ◌≤◌, true, ltb, le-ltb, List, [], ◌∷◌, ◌++◌, Option, Some, None, slice_get, length, map, refl, ap, sym, ◌∙◌, subst, arith}
+use Rattle.std.proofs.Common.{◌≡◌, ℕ, zero, suc, ◌<◌, ◌≤◌, Bool, true, ltb, le-ltb, List, [], ◌∷◌, ◌++◌, Option, Some, None, slice_get, length, map, refl, ap, sym, ◌∙◌, subst, arith}
 use Rattle.std.specs.List.{AllByRecursion as Every}
 use Rattle.std.proofs.lemmas.Bool.{lt-ltb}
 use Rattle.hl_words.proofs.Cut.{every_weaker}
 use Rattle.hl_memory.specs.declared.act.Act.{Act}
 use Rattle.hl_memory.specs.Counters.{AddsAt}
 use Rattle.hl_memory.specs.OneTrace.{ActBy, acts_by}
-use Rattle.hl_memory.specs.Records.{Appended, changes, AppendsOnly, AllAppend}
+use Rattle.hl_memory.specs.Records.{Appended, changes, AppendsOnly}
 use Rattle.hl_memory.proofs.BeyondLaws.{none_of_other}
 use Rattle.hl_memory.proofs.CounterLaws.{counters_are_sums}
 use Rattle.hl.specs.Sessions.{SessionState}
 use Rattle.hl.specs.Threads.{ThreadActs}
 use Rattle.hl.specs.Traces.{acts, AreMet, IsFresh}
-use Rattle.hl.specs.Uses.{CountersEndAsSums, HasWhole, ThreadsAppend}
+use Rattle.hl.specs.Uses.{AllHaveAppended, AreJust, CountersEndAsSums, HasAppended, ThreadsAppend}
 use Rattle.hl.proofs.AppendActs.{changes_both, changes_met}
 
 -- locked calls add nothing
@@ -50,9 +50,9 @@ beyond_none [] i at = omega arith
 beyond_none (x ∷ xs) zero at = absurd (cc at)
 beyond_none (x ∷ xs) (suc i) at = omega (arith, beyond_none xs i at)
 
-module _ {Out : Type 0} (Returns : ℕ → SessionState → SessionState → Out → Type 0) (all : List ActBy) (outs : List Out) (entries : Out → List (ℕ × List ℕ)) (theirs : Every (λ (t : ActBy). t.thread < length outs) all)
+module _ {Out : Type 0} (Returns : ℕ → SessionState → SessionState → Out → Type 0) (ok : List ℕ → Bool) (all : List ActBy) (outs : List Out) (entries : Out → List (ℕ × List ℕ)) (theirs : Every (λ (t : ActBy). t.thread < length outs) all)
     (each : (i : ℕ) (out : Out) → slice_get outs i ≡ Some out → ThreadActs (Returns i) (acts_by i all) out)
-    (told : (i : ℕ) (first last : SessionState) (out : Out) → IsFresh first → Returns i first last out → (records : List Appended) × AppendsOnly records (acts last) × HasWhole records (entries out)) where
+    (told : (i : ℕ) (first last : SessionState) (out : Out) → IsFresh first → Returns i first last out → HasAppended ok (acts last) (entries out)) where
   -- who has no result did nothing
   no_acts : (i : ℕ) → length outs ≤ i → acts_by i all ≡ []
   no_acts i far =
@@ -60,18 +60,31 @@ module _ {Out : Type 0} (Returns : ℕ → SessionState → SessionState → Out
       (every_weaker (λ (t : ActBy). t.thread < length outs) (λ (t : ActBy). ltb t.thread (length outs) ≡ true) all (λ t less. lt-ltb t.thread (length outs) less) theirs)
 
   -- the records of one
-  of_one : (i : ℕ) (o : Option Out) → slice_get outs i ≡ o → (records : List Appended) × AppendsOnly records (acts_by i all) × ((out : Out) → o ≡ Some out → HasWhole records (entries out))
-  of_one i None at = ([], ap changes (no_acts i (beyond_none outs i at)), λ out e. absurd (cc e))
+  record OfOne (i : ℕ) (o : Option Out) : Type 0 where
+    records : List Appended
+    appends : AppendsOnly records (acts_by i all)
+    just : (out : Out) → o ≡ Some out → AreJust ok records (entries out)
+    some : (k : ℕ) (r : Appended) → slice_get records k ≡ Some r → (out : Out) × (o ≡ Some out)
+
+  of_one : (i : ℕ) (o : Option Out) → slice_get outs i ≡ o → OfOne i o
+  of_one i None at = record { records = []; appends = ap changes (no_acts i (beyond_none outs i at)); just = λ out e. absurd (cc e); some = λ k r e. absurd (cc e) }
   of_one i (Some one) at =
       let t = each i one at in
-      let r = told i t.first t.last one t.fresh t.ran in (
-        r.0,
-        ap changes t.own_is ∙ met_changes t.left (acts t.last) t.met ∙ r.1,
-        λ out e. let same : one ≡ out = cc e in subst (λ (o : Out). HasWhole r.0 (entries o)) same r.2,
-      )
+      let r = told i t.first t.last one t.fresh t.ran in
+      record {
+        records = r.records;
+        appends = ap changes t.own_is ∙ met_changes t.left (acts t.last) t.met ∙ r.only;
+        just = λ out e. let same : one ≡ out = cc e in subst (λ (o : Out). AreJust ok r.records (entries o)) same r.just;
+        some = λ k x e. (one, refl);
+      }
 
-  pub all_append : (records : ℕ → List Appended) × AllAppend records all × ((i : ℕ) (out : Out) → slice_get outs i ≡ Some out → HasWhole (records i) (entries out))
-  all_append = (λ i. (of_one i (slice_get outs i) refl).0, λ i. (of_one i (slice_get outs i) refl).1, λ i out at. (of_one i (slice_get outs i) refl).2 out at)
+  pub all_append : AllHaveAppended ok all outs entries
+  all_append = record {
+    records = λ i. (of_one i (slice_get outs i) refl).records;
+    appends = λ i. (of_one i (slice_get outs i) refl).appends;
+    just = λ i out at. (of_one i (slice_get outs i) refl).just out at;
+    theirs = λ i k r at. (of_one i (slice_get outs i) refl).some k r at;
+  }
 
 pub threads_append : {Out : Type 0} (Returns : ℕ → SessionState → SessionState → Out → Type 0) → ThreadsAppend Returns
-threads_append Returns all outs entries theirs each told = all_append Returns all outs entries theirs each told
+threads_append Returns ok all outs entries theirs each told = all_append Returns ok all outs entries theirs each told

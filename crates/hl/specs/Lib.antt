@@ -19,3 +19,4 @@ pub mod Waits
 pub mod Threads
 pub mod Left
 pub mod Uses
+pub mod Scans

@@ -1,7 +1,8 @@
 -- What follows from the one trace of a log's threads, for common wants.
-use Rattle.std.specs.Prelude.{ℕ, ◌≡◌, ◌<◌, ◌%◌, ◌^◌, Some, Result, MatchResult, List, ◌∷◌, ◌++◌, length, map, slice_get, ⊤}
+use Rattle.std.specs.Prelude.{ℕ, ◌≡◌, ◌<◌, ◌%◌, ◌^◌, ◌⊎◌, Bool, true, Some, Result, MatchResult, List, [], ◌∷◌, ◌++◌, length, map, slice_get}
 use Rattle.std.specs.List.{AllByRecursion, sum}
 use Rattle.hl_model.specs.declared.fault.Fault.{Fault}
+use Rattle.hl_memory.specs.declared.act.Act.{Act}
 use Rattle.hl_memory.specs.Counters.{AddsAt}
 use Rattle.hl_memory.specs.OneTrace.{ActBy, acts_by, left_at, AreOne}
 use Rattle.hl_memory.specs.Records.{Appended, AppendsOnly, AllAppend}
@@ -23,26 +24,47 @@ CountersEndAsSums {Out} Returns = (all : List ActBy) (outs : List Out) (a : ℕ)
 abbrev pub whole : ℕ → List ℕ → Appended
 whole a words = record { address = a; words = words; count = length words }
 
--- An append: a session that appended these records, and placed and stored nothing else, did so of some more then; if the
--- append was answered with an address, the newest of them is the whole record there
+-- each of these is a number of 64 bits
+abbrev pub AreNumbers : List ℕ → Type 0
+AreNumbers words = (m v : ℕ) → slice_get words m ≡ Some v → v < 2 ^ 64
+
+-- These records have words that are `ok`. All of those words were stored of just those at these addresses; the append of each
+-- other was refused midway
+pub record AreJust (ok : List ℕ → Bool) (records : List Appended) (entries : List (ℕ × List ℕ)) : Type 0 where
+  pub has : (n : ℕ) (entry : ℕ × List ℕ) → slice_get entries n ≡ Some entry
+      → (k : ℕ) × (slice_get records k ≡ Some (whole entry.0 entry.1))
+  pub others : (k : ℕ) (r : Appended) → slice_get records k ≡ Some r → (r.count < length r.words)
+      ⊎ ((r ≡ whole r.address r.words) × (n : ℕ) × (slice_get entries n ≡ Some (r.address, r.words)))
+  pub fine : (k : ℕ) (r : Appended) → slice_get records k ≡ Some r → (ok r.words ≡ true) × AreNumbers r.words
+
+-- these acts appended such records, and placed and stored nothing else
+pub record HasAppended (ok : List ℕ → Bool) (own : List Act) (entries : List (ℕ × List ℕ)) : Type 0 where
+  pub records : List Appended
+  pub only : AppendsOnly records own
+  pub just : AreJust ok records entries
+
+-- An append: a session that has appended these has one more, if it was answered with an address, and else the same
 abbrev pub AppendsMore : Type 0
-AppendsMore = (again : ℕ) (words : List ℕ) (result : Result ℕ Fault) (old new : SessionState)
-    (records : List Appended) → AppendsBy again words result old new → AppendsOnly records (acts old)
-    → (more : List Appended) × AppendsOnly (more ++ records) (acts new) × MatchResult result
-    (λ a. (vain : List Appended) × (more ≡ whole a words ∷ vain)) (λ _. ⊤)
+AppendsMore = (ok : List ℕ → Bool) (again : ℕ) (words : List ℕ) (result : Result ℕ Fault) (old new : SessionState)
+    (entries : List (ℕ × List ℕ)) → ok words ≡ true → AreNumbers words
+    → AppendsBy again words result old new → HasAppended ok (acts old) entries → MatchResult result
+    (λ a. HasAppended ok (acts new) (entries ++ (a, words) ∷ [])) (λ _. HasAppended ok (acts new) entries)
 
--- among these records are those at these addresses, each whole
-abbrev pub HasWhole : List Appended → List (ℕ × List ℕ) → Type 0
-HasWhole records entries = (n : ℕ) (entry : ℕ × List ℕ) → slice_get entries n ≡ Some entry
-    → (k : ℕ) × (slice_get records k ≡ Some (whole entry.0 entry.1))
+-- all that threads did which returned these is appends of records: of each thread those that it tells
+pub record AllHaveAppended {Out : Type 0} (ok : List ℕ → Bool) (all : List ActBy) (outs : List Out)
+    (entries : Out → List (ℕ × List ℕ)) : Type 0 where
+  pub records : ℕ → List Appended
+  pub appends : AllAppend records all
+  pub just : (i : ℕ) (out : Out) → slice_get outs i ≡ Some out → AreJust ok (records i) (entries out)
+  pub theirs : (i k : ℕ) (r : Appended) → slice_get (records i) k ≡ Some r
+      → (out : Out) × (slice_get outs i ≡ Some out)
 
--- Records: where each thread's work tells of what the thread returned that it appended records, those among them, and placed
--- and stored nothing else, all that the threads did is appends of such records
+-- Records: where each thread's work tells of what the thread returned what it appended, and that it placed and stored nothing
+-- else, all that the threads did is appends of such records
 abbrev pub ThreadsAppend : {Out : Type 0} → (ℕ → SessionState → SessionState → Out → Type 0) → Type 0
-ThreadsAppend {Out} Returns = (all : List ActBy) (outs : List Out) (entries : Out → List (ℕ × List ℕ))
-    → AllByRecursion (λ t. t.thread < length outs) all
+ThreadsAppend {Out} Returns = (ok : List ℕ → Bool) (all : List ActBy) (outs : List Out)
+    (entries : Out → List (ℕ × List ℕ)) → AllByRecursion (λ t. t.thread < length outs) all
     → ((i : ℕ) (out : Out) → slice_get outs i ≡ Some out → ThreadActs (Returns i) (acts_by i all) out)
     → ((i : ℕ) (first last : SessionState) (out : Out) → IsFresh first → Returns i first last out
-    → (records : List Appended) × AppendsOnly records (acts last) × HasWhole records (entries out))
-    → (records : ℕ → List Appended) × AllAppend records all
-    × ((i : ℕ) (out : Out) → slice_get outs i ≡ Some out → HasWhole (records i) (entries out))
+    → HasAppended ok (acts last) (entries out))
+    → AllHaveAppended ok all outs entries

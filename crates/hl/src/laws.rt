@@ -1,7 +1,9 @@
 //! What follows for those who wait, for a ticket or for an action, and for those whose page was evicted; and
 //! what all threads did, as one trace. Each is the contract of a function that does nothing.
 ghost use Rattle.hl.specs.Evictions.{EvictedWereFlushed, LoadedEvictedWereFlushed};
+ghost use Rattle.hl.specs.Left.{WordsAreRecords};
 ghost use Rattle.hl.specs.Overs.{OverWereDone};
+ghost use Rattle.hl.specs.Scans.{RecordsAreScanned};
 ghost use Rattle.hl.specs.Threads.{ThreadsAreOne};
 ghost use Rattle.hl.specs.Uses.{AppendsMore, CountersEndAsSums, ThreadsAppend};
 ghost use Rattle.hl.specs.Waits.{SafeAfterAllMovedOn};
@@ -54,14 +56,29 @@ pub fn counters_end_as_sums<R: Wait, P: Work<R>>(_work: &P)
     ensures { CountersEndAsSums (P.returns _work.now) }
 {}
 
-/// An append is appends of records: a session that appended some, and placed and stored nothing else, appended more then, of
-/// which the newest is the whole record that was answered; the others are those that were placed in vain.
+/// A session that has appended records, and placed and stored nothing else, has one more by an append that was answered with
+/// an address, and the same by one that was refused: what that stored is told as refused midway. `ok` says what is to be
+/// known of the words of each record, of those refused midway, too.
 pub fn appends_more()
     ensures { AppendsMore }
 {}
 
 /// All that the threads of a work did is appends of records, where `returns` says so of each: then what it appended is read
-/// by everybody as it was appended, by the laws of [`hl_memory`](hl_memory::laws) on records.
+/// by everybody as it was appended, by the laws of [`hl_memory`](hl_memory::laws) on records. Those whose words were all
+/// stored are just those that the threads tell.
 pub fn threads_append<R: Wait, P: Work<R>>(_work: &P)
     ensures { ThreadsAppend (P.returns _work.now) }
+{}
+
+/// Once the log is closed, its words are those of the records that its threads appended, and 0 elsewhere, in memory and on
+/// the device together: for the words that [`words_left`](crate::words_left) read.
+pub fn words_are_records<F: Task>()
+    ensures { WordsAreRecords F }
+{}
+
+/// Once the log is closed, all records that its threads appended are found in its words, by whoever passes each 0 and steps
+/// from record to record, if none begins or ends with 0: in the order of their addresses just those that the threads tell.
+/// It gives the rules by which a scan is proved (`CanScan`), in the user's own layout of a record.
+pub fn records_are_scanned<R: Wait, P: Work<R>>(_work: &P)
+    ensures { RecordsAreScanned P.Job P.Out }
 {}

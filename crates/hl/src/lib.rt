@@ -10,7 +10,7 @@
 //! | the same with threads and a crew, in few words | [`run_threads`], with a [`Config`] and a [`Work`] of your own |
 //! | that with an opening and a duty of your own, and with an ending whatever the threads met | [`with_threads`] |
 //! | the same with a device in memory that comes back | [`with_memory`], with a [`MemoryDevice`] |
-//! | to read a word of it once it is closed, wherever that lies | [`word_left`] |
+//! | to read a word of it, or all, once it is closed, wherever that lies | [`word_left`], [`words_left`] |
 //! | to place, store and load words in a thread | a [`Session`], which a [`Rider`] enters |
 //! | to know whether a record may be changed in place, copied, or read from the device | [`Session::region`], which returns a [`Region`] |
 //! | to try again what was refused for now, to wait for the others | [`attempt`], [`Session::help`], [`Session::wait`] |
@@ -96,7 +96,7 @@ pub use hl_words::{OffsetWords, Realm, RiderView, Seed, Touch, Words};
 pub use hl_words::Past;
 /// A thread's right to act.
 pub use hl_words::Rider;
-pub use left::word_left;
+pub use left::{word_left, words_left};
 pub use log::Log;
 pub use memory::{MemoryDevice, Written, with_memory};
 pub use open::{Closed, with_log};
