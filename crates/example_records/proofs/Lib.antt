@@ -1,2 +1,3 @@
 pub mod TellLaws
 pub mod KeptLaws
+pub mod ScanLaws

@@ -1,18 +1,18 @@
 -- What a thread's report tells of what its session did.
-use Rattle.std.proofs.Common.{◌≡◌, ◌≢◌, ℕ, zero, suc, ◌+◌, ◌-◌, Bool, true, false, if◌then◌else◌, List, [], ◌∷◌, ◌++◌, length, Some, IfSome, Result, Ok, Err, slice_get, refl, sym, ap, ◌∙◌, subst, arith}
-use Rattle.std.specs.Result.{result_ok}
+use Rattle.std.proofs.Common.{◌≡◌, ◌≢◌, ℕ, zero, suc, ◌+◌, ◌-◌, Bool, true, false, if◌then◌else◌, List, [], ◌∷◌, ◌++◌, length, Some, Result, Ok, Err, slice_get, refl, sym, ap, ◌∙◌, subst, arith}
+use Rattle.std.specs.Prelude.{MatchResult}
 use Rattle.std.proofs.lemmas.List.{append_assoc, map_push}
 use Rattle.std.proofs.lemmas.Option.{same_Some}
 use Rattle.hl_model.specs.declared.fault.Fault.{Fault}
 use Rattle.hl_domain.specs.Domains.{stays_current}
 use Rattle.hl_memory.specs.declared.act.Act.{Act}
 use Rattle.hl_memory.specs.declared.act.Act.TheVariants.{Loaded, Met}
-use Rattle.hl_memory.specs.Records.{Appended, changes, loads_from, AppendsOnly}
+use Rattle.hl_memory.specs.Records.{changes, loads_from}
 use Rattle.hl.specs.Sessions.{SessionState}
 use Rattle.hl.specs.Traces.{acts, AppendsBy, AreMet, KeepsUpBy, OnlyMeets}
-use Rattle.hl.specs.Uses.{whole, AppendsMore, HasWhole}
+use Rattle.hl.specs.Uses.{AppendsMore, AreNumbers, HasAppended}
 use Rattle.example_records.specs.declared.storing.Entry.{Entry}
-use Rattle.example_records.specs.Records.{entries_of, AddsTold, AreTold, IsFramed, IsRead, KeepsTold, LoadedOn}
+use Rattle.example_records.specs.Records.{is_framed, rows_of, AddsTold, AreTold, IsRead, KeepsTold, LoadedOn}
 
 -- what holds of each element, and of one more behind them
 pub one_more : {X : Type 0} (P : ℕ → X → Type 0) (xs : List X) (y : X) → ((n : ℕ) (x : X) → slice_get xs n ≡ Some x → P n x) → P (length xs) y → (n : ℕ) (x : X) → slice_get (xs ++ y ∷ []) n ≡ Some x → P n x
@@ -65,49 +65,42 @@ is_read a count end last row words old one two new first second third same long 
     let loads = third ∙ ap (loads_from a row) (second ∙ ap (λ (l : List Act). Loaded end last ∷ l) first ∙ ap (λ (b : ℕ). Loaded b last ∷ Loaded a count ∷ old) there ∙ ap (λ (n : ℕ). Loaded (a + (length row - 1)) last ∷ Loaded a n ∷ old) (sym long)) in
     subst (λ (l : List ℕ). IsRead new a l) (sym same) ([], old, last, loads, omega (arith, long, some), whole)
 
--- an element behind more
-behind : {X : Type 0} (more xs : List X) (k : ℕ) (x : X) → slice_get xs k ≡ Some x → (j : ℕ) × (slice_get (more ++ xs) j ≡ Some x)
-behind [] xs k x at = (k, at)
-behind (y ∷ more) xs k x at = let j = behind more xs k x at in (suc j.0, j.1)
-
--- what was told holds when more was done
-still_told : (own old new : List Act) (more : List Appended) (appended read : List Entry) (told : AreTold old appended read) → new ≡ own ++ old → AppendsOnly (more ++ told.records) new → AreTold new appended read
-still_told own old new more appended read told grew only = record {
-  records = more ++ told.records;
-  only = only;
-  has = λ n entry at. let k = told.has n entry at in behind more told.records k.0 (whole entry.0 entry.1) k.1;
-  framed = told.framed;
-  reads = λ n e at. let r = told.reads n e at in (own ++ r.0, r.1, r.2, grew ∙ ap (λ (l : List Act). own ++ l) r.3 ∙ sym (append_assoc own r.0 _), r.4, r.5);
-}
+-- what was read stays told when more is done
+still_read : (own old new : List Act) (read : List Entry) → new ≡ own ++ old → ((n : ℕ) (e : Entry) → slice_get read n ≡ Some e → IsRead old e.address e.words.items) → (n : ℕ) (e : Entry) → slice_get read n ≡ Some e → IsRead new e.address e.words.items
+still_read own old new read grew reads n e at = let r = reads n e at in (own ++ r.0, r.1, r.2, grew ∙ ap (λ (l : List Act). own ++ l) r.3 ∙ sym (append_assoc own r.0 _), r.4, r.5)
 
 -- as after loads
 pub loads_keep : (old new : List Act) → LoadedOn old new → KeepsTold old new
-loads_keep old new loads appended read told = still_told loads.0 old new [] appended read told loads.1 (loads.2 ∙ told.only)
+loads_keep old new loads appended read told = record {
+  appends = record { records = told.appends.records; only = loads.2 ∙ told.appends.only; just = told.appends.just };
+  reads = still_read loads.0 old new read loads.1 told.reads;
+}
 
 -- and after an append, with the new record
-pub answered : AppendsMore → (words : List ℕ) (result : Result ℕ Fault) (old new : SessionState) → AppendsBy 63 words result old new → KeepsTold (acts old) (acts new) × IfSome (result_ok result) (AddsTold words (acts old) (acts new))
-answered law words result old new did = (keeps, adds result did)
-  where
-    keeps : KeepsTold (acts old) (acts new)
-    keeps appended read told =
-        let more = law 63 words result old new told.records did told.only in
-        still_told did.0 (acts old) (acts new) more.0 appended read told did.1 more.1
+pub answered : AppendsMore → (words : List ℕ) (result : Result ℕ Fault) (old new : SessionState) → is_framed words ≡ true → AreNumbers words → AppendsBy 63 words result old new → MatchResult result (AddsTold words (acts old) (acts new)) (λ _. KeepsTold (acts old) (acts new))
+answered law words (Ok a) old new framed fit did = λ e at are appended read told. record {
+  appends = subst (HasAppended is_framed (acts new)) (sym (map_push (λ (x : Entry). (x.address, x.words.items)) appended e ∙ ap (λ (b : ℕ). rows_of appended ++ (b, e.words.items) ∷ []) at ∙ ap (λ (l : List ℕ). rows_of appended ++ (a, l) ∷ []) are))
+      (law is_framed 63 words (Ok a) old new (rows_of appended) framed fit did told.appends);
+  reads = still_read did.0 (acts old) (acts new) read did.1 told.reads;
+}
+answered law words (Err fault) old new framed fit did = λ appended read told. record {
+  appends = law is_framed 63 words (Err fault) old new (rows_of appended) framed fit did told.appends;
+  reads = still_read did.0 (acts old) (acts new) read did.1 told.reads;
+}
 
-    adds : (result : Result ℕ Fault) → AppendsBy 63 words result old new → IfSome (result_ok result) (AddsTold words (acts old) (acts new))
-    adds (Err fault) did = tt
-    adds (Ok a) did = λ e at are framed appended read told.
-        let more = law 63 words (Ok a) old new told.records did told.only in
-        let records = more.0 ++ told.records in
-        let newest : slice_get records 0 ≡ Some (whole e.address e.words.items) = ap (λ (l : List Appended). slice_get (l ++ told.records) 0) more.2.1 ∙ ap (λ (b : ℕ). Some (whole b words)) (sym at) ∙ ap (λ (l : List ℕ). Some (whole e.address l)) (sym are) in
-        record {
-          records = records;
-          only = more.1;
-          has = subst (λ (l : List (ℕ × List ℕ)). HasWhole records l) (sym (map_push (λ (x : Entry). (x.address, x.words.items)) appended e))
-              (one_more (λ _ entry. (k : ℕ) × (slice_get records k ≡ Some (whole entry.0 entry.1))) (entries_of appended) (e.address, e.words.items) (λ n entry f. let k = told.has n entry f in behind more.0 told.records k.0 (whole entry.0 entry.1) k.1) (0, newest));
-          framed = one_more (λ _ x. IsFramed x.words.items) appended e told.framed (subst IsFramed (sym are) framed);
-          reads = (keeps appended read told).reads;
-        }
+-- a session that did nothing yet but to enter tells nothing
+pub none_told : (own : List Act) → (n : ℕ) × (own ≡ Met n ∷ []) → (appended read : List Entry) → appended ≡ [] → read ≡ [] → AreTold own appended read
+none_told own fresh appended read none nothing = record {
+  appends = subst (λ (l : List Entry). HasAppended is_framed own (rows_of l)) (sym none)
+      (record { records = []; only = ap changes fresh.1; just = record { has = λ n row at. absurd (cc at); others = λ k r at. absurd (cc at); fine = λ k r at. absurd (cc at) } });
+  reads = λ n e at. let there : slice_get [] n ≡ Some e = sym (ap (λ (l : List Entry). slice_get l n) nothing) ∙ at in absurd (cc there);
+}
+
+-- what an append that was refused leaves
+pub in_vain : (result : Result ℕ Fault) (Adds : ℕ → Type 0) (Keeps : Type 0) → ((x : ℕ) → result ≡ Ok x → ⊥) → MatchResult result Adds (λ _. Keeps) → Keeps
+in_vain (Ok x) Adds Keeps not_ok did = absurd (not_ok x refl)
+in_vain (Err fault) Adds Keeps not_ok did = did
 
 -- a record more was read
 pub read_told : (e : Entry) (own : List Act) (appended read : List Entry) → IsRead own e.address e.words.items → AreTold own appended read → AreTold own appended (read ++ e ∷ [])
-read_told e own appended read is told = record { records = told.records; only = told.only; has = told.has; framed = told.framed; reads = one_more (λ _ x. IsRead own x.address x.words.items) read e told.reads is }
+read_told e own appended read is told = record { appends = told.appends; reads = one_more (λ _ x. IsRead own x.address x.words.items) read e told.reads is }

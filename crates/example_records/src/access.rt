@@ -1,7 +1,8 @@
 //! A record appended, or read, in a session.
-ghost use Rattle.std.specs.Prelude.{IfOk, IfSome};
+ghost use Rattle.std.specs.Prelude.{◌≡◌, true, IfOk, IfNone, IfSome};
 ghost use Rattle.hl.specs.Traces.{acts};
-ghost use Rattle.example_records.specs.Records.{AddsTold, IsRead, KeepsTold, LoadedOn};
+ghost use Rattle.hl.specs.Uses.{AreNumbers};
+ghost use Rattle.example_records.specs.Records.{is_framed, AddsTold, IsRead, KeepsTold, LoadedOn};
 
 use crate::record::LONGEST;
 use hl::{Cure, Fault, Helping, Realm, Session, laws};
@@ -14,8 +15,10 @@ const TRIES: u32 = 1_000_000;
 /// Appends a record of these words, with help for the log between two tries. Returns its address, or `None` if it was refused
 /// for good.
 pub(crate) fn append<R: Wait, L: Realm>(session: &mut Session<R, L>, words: &[u64]) -> Option<u64>
-    ensures kept { KeepsTold (acts session.old) (acts session.new) }
+    requires framed { is_framed words.now ≡ true }
+    requires numbers { AreNumbers words.now }
     ensures told { IfSome result (AddsTold words.now (acts session.old) (acts session.new)) }
+    ensures kept { IfNone result (KeepsTold (acts session.old) (acts session.new)) }
 {
     laws::appends_more();
     for _ in 0..TRIES {

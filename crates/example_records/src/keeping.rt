@@ -1,12 +1,12 @@
-//! The log opened, its threads run, and all that left memory read at the end.
+//! The log opened, its threads run, and all records found at the end.
 ghost use Rattle.std.specs.Prelude.{IfOk};
 ghost use Rattle.example_records.specs.Records.{AreKept};
 
-use crate::left::Left;
+use crate::scan::scan;
 use crate::storing::{Entry, Report, Storing};
 use hl::{
     AnyAnswer, Duty, Ending, Fault, HasSizes, MemoryDevice, NoJob, Opening, Outs, Written, laws,
-    with_memory,
+    with_memory, words_left,
 };
 use hl_memory::laws as memory;
 use std::alloc::Global;
@@ -19,8 +19,8 @@ use std::thread::Threads;
 pub struct Kept {
     /// What each thread did.
     pub reports: Outs<Report>,
-    /// All that was appended, and what had left memory, as it was read at the end, from memory or from the device.
-    pub late: Vec<Entry>,
+    /// All that was appended, in the order of the addresses, as it was found at the end, in memory or on the device.
+    pub found: Vec<Entry>,
     pub device: MemoryDevice,
     pub ending: Ending<NoJob, AnyAnswer>,
 }
@@ -34,13 +34,13 @@ pub struct Storage<S> {
 }
 
 /// Opens a log, lets its threads append these records, record k by thread k modulo their number, and read each other's beside
-/// a crew, and closes it. Then it reads from memory and the device all that was appended, and all that a thread wanted to read
-/// when it had left memory. Each record that was read, by a thread or at the end, is the record that was appended at its
-/// address.
+/// a crew, and closes it. Then it finds all records, in memory and on the device, in the order of their addresses: also those
+/// that had left memory when a thread wanted to read them.
 ///
-/// That a record is appended, or found, is not proved: what is not read is not spoken of.
+/// Each record that a thread read is the record that was appended at its address; and those found at the end are just those
+/// that the threads appended. That the log takes a record is not proved: one that it refuses is in no report.
 ///
-/// Faults: those of [`with_memory`]; `OutOfMemory`.
+/// Faults: those of [`with_memory`]; of [`words_left`]; `OutOfMemory`.
 pub fn keep<R: Threads + Wait + Sync, S: HasSizes>(
     rt: &R,
     alloc: Global,
@@ -63,7 +63,7 @@ pub fn keep<R: Threads + Wait + Sync, S: HasSizes>(
         threads: opening.riders.saturating_sub(4),
     };
     laws::threads_append::<R, _>(&work);
-    memory::records_stay();
+    laws::records_are_scanned::<R, _>(&work);
     memory::records_are_found_by();
     memory::records_are_whole();
     let closed = with_memory(rt, alloc, opening, duty, &work, device)?;
@@ -72,16 +72,11 @@ pub fn keep<R: Threads + Wait + Sync, S: HasSizes>(
     let Ok(ending) = closed.ending else {
         unreachable!()
     };
-    let late = Left {
-        alloc,
-        sizes,
-        ending: &ending,
-        device: &device,
-    }
-    .read_all(&reports)?;
+    let words = words_left(alloc, sizes, &ending, &device)?;
+    let found = scan(alloc, &words)?;
     Ok(Kept {
         reports,
-        late,
+        found,
         device,
         ending,
     })

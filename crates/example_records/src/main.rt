@@ -1,22 +1,22 @@
-//! A log store: threads append records of any length up to a page, and read each other's from memory. What has left memory
-//! when a thread wants it, and all that was appended, is read once the log is closed, from memory or from its device.
+//! A log store: threads append records of any length up to a page, and read each other's from memory. Once the log is closed
+//! all records are found, in memory or on its device: also those that had left memory when a thread wanted them.
 //!
 //! | Module | What it has |
 //! |---|---|
 //! | `record` | how a record lies in the log |
 //! | `access` | a record appended, or read, in a session |
 //! | `storing` | what each thread does |
-//! | `keeping` | the log opened, its threads run, and all read at the end; the theorem |
-//! | `left` | records read once the log is closed |
+//! | `keeping` | the log opened, its threads run, and all found at the end; the theorem |
+//! | `scan` | all records found in a log's words |
 //!
-//! The theorem is the clause of `keeping::keep`: whatever was read at the address of a record that a thread appended is that
-//! record, read by a thread or at the end.
+//! The theorem is the clause of `keeping::keep`: whatever a thread read at the address of a record that a thread appended is
+//! that record; and at the end memory and device together have just the records that were appended.
 #![tactic(auto)]
 
 mod access;
 mod keeping;
-mod left;
 mod record;
+mod scan;
 mod storing;
 
 use hl::{Duty, Fault, MemoryDevice, Opening, Params};
@@ -51,7 +51,8 @@ fn contents(alloc: Global, number: u64) -> Result<Vec<u64>, Fault> {
     Ok(words)
 }
 
-/// Keeps records in a log of four frames: how many were appended, and how many of them were read when it was closed.
+/// Keeps records in a log of four frames: how many were found when it was closed, and how many that had left memory when a
+/// thread wanted them weren't.
 fn run<R: Threads + Wait + Sync>(rt: &R, alloc: Global) -> Result<(usize, usize), Fault> {
     let params = Params::checked(PAGE_SIZE, 4, 4, 16).ok_or(Fault::Size)?;
     // The journal is cut: threads that wait for a frame enter a refresh at each try.
@@ -77,26 +78,24 @@ fn run<R: Threads + Wait + Sync>(rt: &R, alloc: Global) -> Result<(usize, usize)
         device,
     };
     let kept = keep(rt, alloc, storage, &records)?;
-    let mut appended: usize = 0;
-    let mut found: usize = 0;
+    let mut missing: usize = 0;
     for report in &kept.reports {
         if let Ok(report) = report {
-            for entry in &report.appended {
-                appended = appended.saturating_add(1);
-                if kept.late.iter().any(|late| late.address == entry.address) {
-                    found = found.saturating_add(1);
+            for address in &report.evicted {
+                if !kept.found.iter().any(|entry| entry.address == *address) {
+                    missing = missing.saturating_add(1);
                 }
             }
         }
     }
-    Ok((appended, found))
+    Ok((kept.found.len(), missing))
 }
 
 fn main(rt: HostRuntime) -> io::Result<ExitCode> {
     match run(&rt, rt.alloc()) {
-        Ok((appended, found)) => {
-            println!(rt; "appended {appended}")?;
-            println!(rt; "read at the end {found}")?;
+        Ok((found, missing)) => {
+            println!(rt; "found {found}")?;
+            println!(rt; "evicted, and not found {missing}")?;
             Ok(ExitCode::from(0))
         }
         Err(fault) => {

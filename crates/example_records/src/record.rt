@@ -1,7 +1,8 @@
 //! How a record lies in the log: how many words it has, its contents, and a last word that isn't 0. Whoever finds the last
 //! word knows that all others are there.
-ghost use Rattle.std.specs.Prelude.{◌≡◌, ◌++◌, IfOk};
-ghost use Rattle.example_records.specs.Records.{framed, IsFramed};
+ghost use Rattle.std.specs.Prelude.{◌≡◌, ◌++◌, true, IfOk};
+ghost use Rattle.hl.specs.Uses.{AreNumbers};
+ghost use Rattle.example_records.specs.Records.{framed, is_framed};
 
 use hl::Fault;
 use std::alloc::{AllocError, Global};
@@ -17,7 +18,8 @@ const SEAL: u64 = 1;
 /// Fault: `OutOfMemory` if memory is refused.
 pub(crate) fn frame(alloc: Global, contents: &[u64]) -> Result<Vec<u64>, Fault>
     ensures words { IfOk result (λ words. words.items ≡ framed contents.now) }
-    ensures framed { IfOk result (λ words. IsFramed words.items) }
+    ensures framed { IfOk result (λ words. is_framed words.items ≡ true) }
+    ensures numbers { IfOk result (λ words. AreNumbers words.items) }
 {
     let mut words = Vec::new(alloc);
     match fill(&mut words, contents) {

@@ -103,18 +103,19 @@ impl Storing<'_> {
         let Ok(words) = frame(self.alloc, contents) else {
             return;
         };
-        let Some(address) = append(session, &words) else {
+        // What is appended can be told: there is room before it is.
+        if report.appended.reserve(1).is_err() {
             return;
-        };
-        let told = report.appended.push(Entry { address, words }).is_ok();
-        self.publish(k, address, told);
+        }
+        if let Some(address) = append(session, &words) {
+            report.appended.push_reserved(Entry { address, words });
+            self.publish(k, address);
+        }
     }
 
-    // Tells the others where a record lies, if it could be told in its thread's report.
-    fn publish(&self, k: usize, address: u64, told: bool) {
-        if let Some(at) = self.addresses.get(k)
-            && told
-        {
+    // Tells the others where a record lies.
+    fn publish(&self, k: usize, address: u64) {
+        if let Some(at) = self.addresses.get(k) {
             at.store(address.wrapping_add(1), Ordering::SeqCst);
         }
     }

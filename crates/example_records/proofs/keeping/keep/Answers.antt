@@ -1,9 +1,9 @@
-use Rattle.std.proofs.Common.{rules, ◌≡◌, Ok, subst₂}
+use Rattle.std.proofs.Common.{rules, ◌≡◌, Ok, subst, subst₂}
 use Rattle.hl_action.specs.declared.no_job.NoJob.{NoJob}
 use Rattle.hl.specs.Devices.{on_memory}
 use Rattle.hl.specs.Threads.{HaveOneTrace}
 use Rattle.example_records.specs.declared.keeping.Kept.{Kept}
-use Rattle.example_records.specs.Records.{returns_report}
+use Rattle.example_records.specs.Records.{returns_report, AreScanned}
 use Rattle.example_records.proofs.KeptLaws.{records_kept}
 use Rattle.example_records.proofs.keeping.keep.Goals as goal
 
@@ -17,5 +17,5 @@ returns g c =
     let outs_are : closed.out.outs ≡ Ok reports = search rules in
     let ending_is : closed.ending ≡ Ok ending = search rules in
     let one = subst₂ (λ results ending. HaveOneTrace NoJob sizes (λ _. returns_report) (on_memory device) results ending) outs_are ending_is c.in_ok-closed.ensures.one in
-    let kept : Kept = record { reports = reports; late = c.in_ok-late.late; device = device; ending = ending } in
-    rw c.in-Ok.ending-is (records_kept sizes kept one c.threads_append.ensures c.records_stay.ensures c.records_are_found_by.ensures c.records_are_whole.ensures (rw (c.sizes-sizes.ensures, c.in-Ok.ending-is) at c.in_ok-late.ensures))
+    let kept : Kept = record { reports = reports; found = c.in_ok-found.found; device = device; ending = ending } in
+    rw c.in-Ok.ending-is (records_kept sizes kept c.in_ok-words.words.items one c.threads_append.ensures c.records_are_found_by.ensures c.records_are_whole.ensures c.records_are_scanned.ensures (rw (c.sizes-sizes.ensures, c.in-Ok.ending-is) at c.in_ok-words.ensures.left) (subst (λ words. AreScanned words c.in_ok-found.found.items) c.deref-2.ensures.value c.in_ok-found.ensures.scanned))
