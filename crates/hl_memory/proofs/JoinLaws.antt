@@ -7,7 +7,6 @@ use Rattle.std.proofs.lemmas.List.{append-nil}
 use Rattle.hl_model.specs.declared.step.Step.{Step}
 use Rattle.hl_model.specs.declared.step.Step.TheVariants.{Allocate}
 use Rattle.hl_model.specs.Offsets.{place_of, tail}
-use Rattle.hl_model.specs.Replies.{IsAccepted}
 use Rattle.hl_model.specs.Sizes.{Sizes}
 use Rattle.hl_laws.proofs.OffsetLaws.{place_of-le, tail-grows, tail-push}
 use Rattle.hl_history.specs.declared.view.Entry.{Entry}
@@ -15,16 +14,15 @@ use Rattle.hl_history.specs.Lists.{Begins, left_by}
 use Rattle.hl_words.specs.declared.view.Extent.{Extent}
 use Rattle.hl_words.specs.declared.view.Touch.{Touch}
 use Rattle.hl_words.specs.declared.view.Touch.TheVariants.{Stored as StoredIn, Loaded as LoadedFrom, Changed as ChangedIn, Called, Looked, Met as WasTold}
-use Rattle.hl_words.specs.Rule.{left_by as leaves_by, TouchBy, by_rider, held, touches_of}
+use Rattle.hl_words.specs.Rule.{left_by as leaves_by, TouchBy, by_rider, called_by, held, last_called, touches_of, Finds}
 use Rattle.hl_words.specs.States.{AreTied}
 use Rattle.hl_words.proofs.Cut.{every_append, every_weaker}
-use Rattle.hl_words.proofs.CallOrder.{IsUpTo}
 use Rattle.hl_words.proofs.Lawful.{Puts, Passes, puts_or_passes}
-use Rattle.hl_images.proofs.PlaceLaws.{both}
+use Rattle.hl_images.proofs.PlaceLaws.{begins_both}
 use Rattle.hl_memory.specs.declared.act.Act.{Act}
-use Rattle.hl_memory.specs.declared.act.Act.TheVariants.{Placed, Stored, Loaded, Changed, Met}
-use Rattle.hl_memory.specs.Acts.{in_cell, in_cells, IsPut}
-use Rattle.hl_memory.specs.OneTrace.{ActBy, by_thread, acts_by, left_at, EndsBelow, LeftUpTo, AreOne}
+use Rattle.hl_memory.specs.declared.act.Act.TheVariants.{Placed, Met}
+use Rattle.hl_memory.specs.Acts.{in_cell, IsPut}
+use Rattle.hl_memory.specs.OneTrace.{ActBy, by_thread, acts_by, left_at, placed_end, EndsBelow, LeftUpTo, AreInRow, AreOne}
 use Rattle.hl_memory.specs.Traces.{placed_by, places, calls_before, told_as, acts_of}
 use Rattle.hl_memory.proofs.ActLaws.{put_is}
 
@@ -82,10 +80,10 @@ other_touch t b i apart = ap (λ (x : Bool). if x then t.touch ∷ touches_of i 
 -- what an act leaves of a bound stays below a greater one
 higher : (m n : ℕ) → m ≤ n → (x : Act) → EndsBelow m x → EndsBelow n x
 higher m n le (Placed a k) h = omega (arith, le, h)
-higher m n le (Stored a v) h = tt
-higher m n le (Loaded a v) h = tt
-higher m n le (Changed a f v) h = tt
-higher m n le (Met k) h = tt
+higher m n le _ h = tt
+
+pub all_higher : (m n : ℕ) → m ≤ n → (X : List ActBy) → Every (λ (t : ActBy). EndsBelow m t.act) X → Every (λ (t : ActBy). EndsBelow n t.act) X
+all_higher m n le X below = every_weaker (λ (x : ActBy). EndsBelow m x.act) (λ (x : ActBy). EndsBelow n x.act) X (λ x e. higher m n le x.act e) below
 
 -- the tail is never lower behind more steps
 pub tail_more : (sizes : Sizes) → 0 < sizes.page_size → (A steps : List Step) → tail sizes A ≤ tail sizes (A ++ steps)
@@ -215,182 +213,143 @@ module _ (sizes : Sizes) (is_thread : ℕ → Bool) where
         (λ (far : is_thread t.rider ≡ false). ap (left_at a) (shown_high t calls rest far) ∙ sooner)
         (either (is_thread t.rider))
 
-  -- no call among these touches left more than n steps
-  abbrev pub CalledUpTo : ℕ → Touch → Type 0
-  CalledUpTo n (Called met left) = left.steps ≤ n
-  CalledUpTo n _ = Unit {0}
+  -- the calls of each rider before a place of the order, each of which is so
+  abbrev pub Ties : (ℕ → Entry → Type 0) → List TouchBy → (ℕ → List Entry) → Type 0
+  Ties Fits b calls = (i : ℕ) → AreTied (touches_of i b) (calls i) × Every (Fits i) (calls i)
 
-  up_to : (e : Extent) (t : Touch) → IsUpTo e (in_cell sizes t) → CalledUpTo e.steps t
-  up_to e (StoredIn d v) h = tt
-  up_to e (LoadedFrom d v) h = tt
-  up_to e (ChangedIn d f v) h = tt
-  up_to e (Called met left) h = h.0
-  up_to e (Looked u x) h = tt
-  up_to e (WasTold m n) h = tt
+  -- they stay so below
+  lower : (P : Entry → Type 0) (t : Touch) (ts : List Touch) (calls : List Entry) → AreTied (t ∷ ts) calls × Every P calls → AreTied ts (calls_before t calls) × Every P (calls_before t calls)
+  lower P (Called met left) ts [] h = absurd h.0
+  lower P (Called met left) ts (call ∷ calls) h = (h.0.2, h.1.1)
+  lower P _ ts calls h = h
 
-  pub all_up_to : (e : Extent) (b : List TouchBy) → Every (λ (t : TouchBy). IsUpTo e t.touch) (in_cells sizes b) → Every (λ (t : TouchBy). CalledUpTo e.steps t.touch) b
-  all_up_to e [] h = tt
-  all_up_to e (t ∷ b) h = (up_to e t.touch h.0, all_up_to e b h.1)
+  pub own_ties : (Fits : ℕ → Entry → Type 0) (t : TouchBy) (b : List TouchBy) (calls : ℕ → List Entry) (i : ℕ) → i ≡ t.rider → Ties Fits (t ∷ b) calls → AreTied (t.touch ∷ touches_of i b) (calls i) × Every (Fits i) (calls i)
+  own_ties Fits t b calls i same ties = subst (λ (ts : List Touch). AreTied ts (calls i) × Every (Fits i) (calls i)) (own_touch t b i same) (ties i)
 
-  up_more : (m n : ℕ) → m ≤ n → (t : Touch) → CalledUpTo m t → CalledUpTo n t
-  up_more m n le (StoredIn d v) h = tt
-  up_more m n le (LoadedFrom d v) h = tt
-  up_more m n le (ChangedIn d f v) h = tt
-  up_more m n le (Called met left) h = omega (arith, le, h)
-  up_more m n le (Looked u x) h = tt
-  up_more m n le (WasTold k x) h = tt
-
-  pub all_up_more : (m n : ℕ) → m ≤ n → (b : List TouchBy) → Every (λ (t : TouchBy). CalledUpTo m t.touch) b → Every (λ (t : TouchBy). CalledUpTo n t.touch) b
-  all_up_more m n le b h = every_weaker (λ (t : TouchBy). CalledUpTo m t.touch) (λ (t : TouchBy). CalledUpTo n t.touch) b (λ t e. up_more m n le t.touch e) h
-
-  -- so it is with the acts
-  placed_up_to : (n : ℕ) (A : List Step) (s : Step) → Every (LeftUpTo n) (placed_by sizes A s)
-  placed_up_to n A (Allocate t k) = (tt, tt)
-  placed_up_to n A _ = tt
-
-  places_up_to : (n : ℕ) (A steps : List Step) → Every (LeftUpTo n) (places sizes A steps)
-  places_up_to n A [] = tt
-  places_up_to n A (s ∷ steps) = every_append (LeftUpTo n) (places sizes (A ++ s ∷ []) steps) (placed_by sizes A s) (places_up_to n (A ++ s ∷ []) steps) (placed_up_to n A s)
-
-  told_up_to : (n : ℕ) (t : Touch) (calls : List Entry) → CalledUpTo n t → Every (LeftUpTo n) (told_as sizes t calls)
-  told_up_to n (StoredIn d v) calls h = (tt, tt)
-  told_up_to n (LoadedFrom d v) calls h = (tt, tt)
-  told_up_to n (ChangedIn d f v) calls h = (tt, tt)
-  told_up_to n (Called met left) [] h = tt
-  told_up_to n (Called met left) (call ∷ calls) h = every_append (LeftUpTo n) (places sizes call.before call.steps) (Met left.steps ∷ []) (places_up_to n call.before call.steps) (h, tt)
-  told_up_to n (Looked u x) calls h = tt
-  told_up_to n (WasTold m k) calls h = tt
-
-  pub joined_up_to : (n : ℕ) (b : List TouchBy) (calls : ℕ → List Entry) → Every (λ (t : TouchBy). CalledUpTo n t.touch) b → Every (λ (t : ActBy). LeftUpTo n t.act) (joined b calls)
-  joined_up_to n [] calls h = tt
-  joined_up_to n (t ∷ b) calls h =
-      let P = λ (x : ActBy). LeftUpTo n x.act in
-      let rest = joined_up_to n b (dropped t calls) h.1 in
+  pub lower_ties : (Fits : ℕ → Entry → Type 0) (t : TouchBy) (b : List TouchBy) (calls : ℕ → List Entry) → Ties Fits (t ∷ b) calls → Ties Fits b (dropped t calls)
+  lower_ties Fits t b calls ties i =
       ⊎_elim
-      (λ (low : is_thread t.rider ≡ true).
-      subst (Every P) (sym (shown_low t calls (joined b (dropped t calls)) low))
-      (every_append P (tagged t.rider (told_as sizes t.touch (calls t.rider))) (joined b (dropped t calls)) (every_tagged (LeftUpTo n) t.rider (told_as sizes t.touch (calls t.rider)) (told_up_to n t.touch (calls t.rider) h.0)) rest))
-      (λ (far : is_thread t.rider ≡ false). subst (Every P) (sym (shown_high t calls (joined b (dropped t calls)) far)) rest)
-      (either (is_thread t.rider))
+      (λ (same : i ≡ t.rider).
+      subst (λ (cs : List Entry). AreTied (touches_of i b) cs × Every (Fits i) cs) (sym (own_dropped t calls i same)) (lower (Fits i) t.touch (touches_of i b) (calls i) (own_ties Fits t b calls i same ties)))
+      (λ (apart : i ≢ t.rider).
+      subst (λ (cs : List Entry). AreTied (touches_of i b) cs × Every (Fits i) cs) (sym (other_dropped t calls i apart)) (subst (λ (ts : List Touch). AreTied ts (calls i) × Every (Fits i) (calls i)) (other_touch t b i apart) (ties i)))
+      (cases_eq i t.rider)
 
-  -- a step places nothing, or one record, which ends at the tail behind it
-  placed_kinds : (A : List Step) (s : Step) → (placed_by sizes A s ≡ [])
-      ⊎ ((n : ℕ) × (placed_by sizes A s ≡ Placed (place_of sizes.page_size (tail sizes A) n) n ∷ []) × (tail sizes (A ++ s ∷ []) ≡ place_of sizes.page_size (tail sizes A) n + n))
-  placed_kinds A (Allocate t n) = inr (n, refl, tail-push sizes A (Allocate t n))
-  placed_kinds A _ = inl refl
+  -- Where the newest call left this list, of so many steps, the acts of threads so far are one trace: no call left more, and no
+  -- record ends above the tail. If no others place records, they lie in a row up to it
+  module _ (page_some : 0 < sizes.page_size) (NoOthers : Type 0) where
+    pub record Stands (n : ℕ) (A : List Step) (X : List ActBy) : Type 0 where
+      pub one : AreOne X
+      pub left : Every (λ (t : ActBy). LeftUpTo n t.act) X
+      pub below : Every (λ (t : ActBy). EndsBelow (tail sizes A) t.act) X
+      pub placed : NoOthers → (tail sizes A ≡ placed_end X) × AreInRow sizes.page_size X
 
-  -- where records lie
-  module _ (page_some : 0 < sizes.page_size) where
-    all_higher : (m n : ℕ) → m ≤ n → (X : List ActBy) → Every (λ (t : ActBy). EndsBelow m t.act) X → Every (λ (t : ActBy). EndsBelow n t.act) X
-    all_higher m n le X below = every_weaker (λ (x : ActBy). EndsBelow m x.act) (λ (x : ActBy). EndsBelow n x.act) X (λ x e. higher m n le x.act e) below
+    -- before the first
+    pub stands_none : Stands 0 [] []
+    unfolding tail
+    stands_none = record { one = tt; left = tt; below = tt; placed = λ only. (refl, tt) }
 
-    -- a step's record lies behind all that end below the tail before it
-    placed_one : (i : ℕ) (A : List Step) (s : Step) (X : List ActBy) → Every (λ (t : ActBy). EndsBelow (tail sizes A) t.act) X → AreOne X
-        → AreOne (tagged i (placed_by sizes A s) ++ X) × Every (λ (t : ActBy). EndsBelow (tail sizes (A ++ s ∷ [])) t.act) (tagged i (placed_by sizes A s) ++ X)
-    placed_one i A s X below one =
-        ⊎_elim
-        (λ (none : placed_by sizes A s ≡ []).
-        subst (λ (l : List Act). AreOne (tagged i l ++ X) × Every (λ (t : ActBy). EndsBelow (tail sizes (A ++ s ∷ [])) t.act) (tagged i l ++ X)) (sym none)
-        (one, all_higher (tail sizes A) (tail sizes (A ++ s ∷ [])) (tail-grows sizes A s page_some) X below))
-        (λ (p : (n : ℕ) × (placed_by sizes A s ≡ Placed (place_of sizes.page_size (tail sizes A) n) n ∷ []) × (tail sizes (A ++ s ∷ []) ≡ place_of sizes.page_size (tail sizes A) n + n)).
-        let place = place_of sizes.page_size (tail sizes A) p.0 in
-        let least = place_of-le sizes.page_size (tail sizes A) p.0 page_some in
-        subst (λ (l : List Act). AreOne (tagged i l ++ X) × Every (λ (t : ActBy). EndsBelow (tail sizes (A ++ s ∷ [])) t.act) (tagged i l ++ X)) (sym p.1)
-        ((all_higher (tail sizes A) place least X below, one), (omega (arith, p.2), all_higher (tail sizes A) (tail sizes (A ++ s ∷ [])) (omega (arith, p.2, least)) X below)))
-        (placed_kinds A s)
+    -- behind one step
+    stands_one : (i n : ℕ) (A : List Step) (s : Step) (X : List ActBy) → Stands n A X → Stands n (A ++ s ∷ []) (tagged i (placed_by sizes A s) ++ X)
+    stands_one i n A (Allocate t k) X h =
+        let place = place_of sizes.page_size (tail sizes A) k in
+        let least = place_of-le sizes.page_size (tail sizes A) k page_some in
+        let ends : tail sizes (A ++ Allocate t k ∷ []) ≡ place + k = tail-push sizes A (Allocate t k) in
+        record {
+          one = (all_higher (tail sizes A) place least X h.below, h.one);
+          left = (tt, h.left);
+          below = (omega (arith, ends), all_higher (tail sizes A) (tail sizes (A ++ Allocate t k ∷ [])) (omega (arith, ends, least)) X h.below);
+          placed = λ only. (ends, (ap (λ (e : ℕ). place_of sizes.page_size e k) (h.placed only).0, (h.placed only).1));
+        }
+    stands_one i n A s X h =
+        let same : tail sizes (A ++ s ∷ []) ≡ tail sizes A = tail-push sizes A s in
+        record {
+          one = h.one;
+          left = h.left;
+          below = all_higher (tail sizes A) (tail sizes (A ++ s ∷ [])) (omega (arith, same)) X h.below;
+          placed = λ only. (same ∙ (h.placed only).0, (h.placed only).1);
+        }
 
-    placed_all : (i : ℕ) (A steps : List Step) (X : List ActBy) → Every (λ (t : ActBy). EndsBelow (tail sizes A) t.act) X → AreOne X → AreOne (tagged i (places sizes A steps) ++ X)
-    placed_all i A [] X below one = one
-    placed_all i A (s ∷ steps) X below one =
-        let p = placed_one i A s X below one in
-        subst AreOne (sym (tagged_both i (places sizes (A ++ s ∷ []) steps) (placed_by sizes A s) X)) (placed_all i (A ++ s ∷ []) steps (tagged i (placed_by sizes A s) ++ X) p.1 p.0)
+    -- behind all steps of a call
+    stands_all : (i n : ℕ) (A steps : List Step) (X : List ActBy) → Stands n A X → Stands n (A ++ steps) (tagged i (places sizes A steps) ++ X)
+    stands_all i n A [] X h = subst (λ (l : List Step). Stands n l X) (sym (append-nil A)) h
+    stands_all i n A (s ∷ steps) X h =
+        subst (λ (l : List Step). Stands n l (tagged i (places sizes A (s ∷ steps)) ++ X)) (append_assoc A (s ∷ []) steps)
+        (subst (Stands n ((A ++ s ∷ []) ++ steps)) (sym (tagged_both i (places sizes (A ++ s ∷ []) steps) (placed_by sizes A s) X))
+        (stands_all i n (A ++ s ∷ []) steps (tagged i (placed_by sizes A s) ++ X) (stands_one i n A s X h)))
 
-    -- records of a call end below the tail that it left
-    placed_below : (A : List Step) (s : Step) → Every (EndsBelow (tail sizes (A ++ s ∷ []))) (placed_by sizes A s)
-    placed_below A s =
-        ⊎_elim
-        (λ (none : placed_by sizes A s ≡ []). subst (Every (EndsBelow (tail sizes (A ++ s ∷ [])))) (sym none) tt)
-        (λ (p : (n : ℕ) × (placed_by sizes A s ≡ Placed (place_of sizes.page_size (tail sizes A) n) n ∷ []) × (tail sizes (A ++ s ∷ []) ≡ place_of sizes.page_size (tail sizes A) n + n)).
-        subst (Every (EndsBelow (tail sizes (A ++ s ∷ [])))) (sym p.1) (omega (arith, p.2), tt))
-        (placed_kinds A s)
+    -- behind those of another's call
+    stands_past : (n : ℕ) (A steps : List Step) (X : List ActBy) → (NoOthers → places sizes A steps ≡ []) → Stands n A X → Stands n (A ++ steps) X
+    stands_past n A steps X none h = record {
+      one = h.one;
+      left = h.left;
+      below = all_higher (tail sizes A) (tail sizes (A ++ steps)) (tail_more sizes page_some A steps) X h.below;
+      placed = λ only.
+          subst (λ (l : List Act). (tail sizes (A ++ steps) ≡ placed_end (tagged 0 l ++ X)) × AreInRow sizes.page_size (tagged 0 l ++ X)) (none only) ((stands_all 0 n A steps X h).placed only);
+    }
 
-    places_below : (A steps : List Step) → Every (EndsBelow (tail sizes (A ++ steps))) (places sizes A steps)
-    places_below A [] = tt
-    places_below A (s ∷ steps) =
-        let P = EndsBelow (tail sizes (A ++ s ∷ steps)) in
-        let same = append_assoc A (s ∷ []) steps in
-        let more = tail_more sizes page_some (A ++ s ∷ []) steps in
-        every_append P (places sizes (A ++ s ∷ []) steps) (placed_by sizes A s)
-        (subst (λ (l : List Step). Every (EndsBelow (tail sizes l)) (places sizes (A ++ s ∷ []) steps)) same (places_below (A ++ s ∷ []) steps))
-        (every_weaker (EndsBelow (tail sizes (A ++ s ∷ []))) P (placed_by sizes A s) (λ x e. higher (tail sizes (A ++ s ∷ [])) (tail sizes (A ++ s ∷ steps)) (omega (arith, more, ap (tail sizes) same)) x e) (placed_below A s))
+    up_more : (m n : ℕ) → m ≤ n → (x : Act) → LeftUpTo m x → LeftUpTo n x
+    up_more m n le (Met k) h = omega (arith, le, h)
+    up_more m n le _ h = tt
 
-    -- The calls of each rider before a place of the order, where the one list is this
-    abbrev pub Ties : List Step → List TouchBy → (ℕ → List Entry) → Type 0
-    Ties whole b calls = (i : ℕ) → AreTied (touches_of i b) (calls i) × Every (λ (e : Entry). Begins (left_by e) whole) (calls i)
+    stands_more : (m n : ℕ) (A : List Step) (X : List ActBy) → m ≤ n → Stands m A X → Stands n A X
+    stands_more m n A X le h = record {
+      one = h.one;
+      left = every_weaker (λ (x : ActBy). LeftUpTo m x.act) (λ (x : ActBy). LeftUpTo n x.act) X (λ x e. up_more m n le x.act e) h.left;
+      below = h.below;
+      placed = h.placed;
+    }
 
-    -- they stay so below
-    lower : (whole : List Step) (t : Touch) (ts : List Touch) (calls : List Entry) → AreTied (t ∷ ts) calls × Every (λ (e : Entry). Begins (left_by e) whole) calls → AreTied ts (calls_before t calls) × Every (λ (e : Entry). Begins (left_by e) whole) (calls_before t calls)
-    lower whole (StoredIn d v) ts calls h = h
-    lower whole (LoadedFrom d v) ts calls h = h
-    lower whole (ChangedIn d f v) ts calls h = h
-    lower whole (Called met left) ts [] h = absurd h.0
-    lower whole (Called met left) ts (call ∷ calls) h = (h.0.2, h.1.1)
-    lower whole (Looked u x) ts calls h = h
-    lower whole (WasTold m n) ts calls h = h
+    -- so it is with each list that begins the whole one and is so long
+    abbrev pub Standing : List Step → Extent → List ActBy → Type 0
+    Standing whole e X = (A : List Step) → Begins A whole → length A ≡ e.steps → Stands e.steps A X
 
-    pub lower_ties : (whole : List Step) (t : TouchBy) (b : List TouchBy) (calls : ℕ → List Entry) → Ties whole (t ∷ b) calls → Ties whole b (dropped t calls)
-    lower_ties whole t b calls ties i =
-        ⊎_elim
-        (λ (same : i ≡ t.rider).
-        subst (λ (cs : List Entry). AreTied (touches_of i b) cs × Every (λ (e : Entry). Begins (left_by e) whole) cs) (sym (own_dropped t calls i same))
-        (lower whole t.touch (touches_of i b) (calls i) (subst (λ (ts : List Touch). AreTied ts (calls i) × Every (λ (e : Entry). Begins (left_by e) whole) (calls i)) (own_touch t b i same) (ties i))))
-        (λ (apart : i ≢ t.rider).
-        subst (λ (cs : List Entry). AreTied (touches_of i b) cs × Every (λ (e : Entry). Begins (left_by e) whole) cs) (sym (other_dropped t calls i apart))
-        (subst (λ (ts : List Touch). AreTied ts (calls i) × Every (λ (e : Entry). Begins (left_by e) whole) (calls i)) (other_touch t b i apart) (ties i)))
-        (cases_eq i t.rider)
+    -- two such are the same
+    same_list : (whole A B : List Step) → Begins A whole → Begins B whole → length A ≡ length B → B ≡ A
+    same_list whole A B a b long = let m = begins_both A B a.0 b.0 (sym a.1 ∙ b.1) (omega (arith, long)) in m.1 ∙ by m.0 m.1
+      where
+        by : (rest : List Step) → B ≡ A ++ rest → A ++ rest ≡ A
+        by [] is = append-nil A
+        by (s ∷ rest) is = absurd (omega (arith, ap length is, long, length-append A (s ∷ rest)))
 
-    -- Where no call left a longer list than this, all records end below its tail
-    module _ (frames_some : 0 < sizes.frames) (whole : List Step) (accepted : IsAccepted sizes whole) (A : List Step) (bA : Begins A whole) where
-      told_below : (t : Touch) (ts : List Touch) (calls : List Entry) → AreTied (t ∷ ts) calls × Every (λ (e : Entry). Begins (left_by e) whole) calls → CalledUpTo (length A) t → Every (EndsBelow (tail sizes A)) (told_as sizes t calls)
-      told_below (StoredIn d v) ts calls h few = (tt, tt)
-      told_below (LoadedFrom d v) ts calls h few = (tt, tt)
-      told_below (ChangedIn d f v) ts calls h few = (tt, tt)
-      told_below (Called met left) ts [] h few = tt
-      told_below (Called met left) ts (call ∷ calls) h few =
-          let more = both sizes whole page_some frames_some accepted (left_by call) A h.1.0 bA (omega (arith, few, h.0.1, length-append call.before call.steps)) in
-          let up : tail sizes (left_by call) ≤ tail sizes A = omega (arith, tail_more sizes page_some (left_by call) more.0, ap (tail sizes) more.1) in
-          every_append (EndsBelow (tail sizes A)) (places sizes call.before call.steps) (Met left.steps ∷ [])
-          (every_weaker (EndsBelow (tail sizes (left_by call))) (EndsBelow (tail sizes A)) (places sizes call.before call.steps) (λ x e. higher (tail sizes (left_by call)) (tail sizes A) up x e) (places_below call.before call.steps)) (tt, tt)
-      told_below (Looked u x) ts calls h few = tt
-      told_below (WasTold m n) ts calls h few = tt
+    -- behind a call, of a thread or of another
+    call_stands : (whole : List Step) (met left : Extent) (call : Entry) (X Y : List ActBy) → Begins (left_by call) whole → met.steps ≡ length call.before → left.steps ≡ length call.before + length call.steps → Standing whole met X
+        → (Stands left.steps call.before X → Stands left.steps (left_by call) Y) → Standing whole left Y
+    call_stands whole met left call X Y b long more sooner on A a is =
+        let before : Begins call.before whole = (call.steps ++ b.0, b.1 ∙ append_assoc call.before call.steps b.0) in
+        let same = same_list whole (left_by call) A b a (omega (arith, is, more, length-append call.before call.steps)) in
+        subst (λ (l : List Step). Stands left.steps l Y) (sym same) (on (stands_more met.steps left.steps call.before X (omega (arith, long, more)) (sooner call.before before (sym long))))
 
-      pub joined_below : (b : List TouchBy) (calls : ℕ → List Entry) → Ties whole b calls → Every (λ (t : TouchBy). CalledUpTo (length A) t.touch) b → Every (λ (t : ActBy). EndsBelow (tail sizes A) t.act) (joined b calls)
-      joined_below [] calls ties few = tt
-      joined_below (t ∷ b) calls ties few =
-          let P = λ (x : ActBy). EndsBelow (tail sizes A) x.act in
-          let rest = joined_below b (dropped t calls) (lower_ties whole t b calls ties) few.1 in
-          ⊎_elim
-          (λ (low : is_thread t.rider ≡ true).
-          let own = subst (λ (ts : List Touch). AreTied ts (calls t.rider) × Every (λ (e : Entry). Begins (left_by e) whole) (calls t.rider)) (own_touch t b t.rider refl) (ties t.rider) in
-          subst (Every P) (sym (shown_low t calls (joined b (dropped t calls)) low))
-          (every_append P (tagged t.rider (told_as sizes t.touch (calls t.rider))) (joined b (dropped t calls)) (every_tagged (EndsBelow (tail sizes A)) t.rider (told_as sizes t.touch (calls t.rider)) (told_below t.touch (touches_of t.rider b) (calls t.rider) own few.0)) rest))
-          (λ (far : is_thread t.rider ≡ false). subst (Every P) (sym (shown_high t calls (joined b (dropped t calls)) far)) rest)
-          (either (is_thread t.rider))
+    module _ (whole : List Step) (P : Entry → Type 0) (begins : (e : Entry) → P e → Begins (left_by e) whole) (before : List TouchBy) (X : List ActBy) (sooner : Standing whole (last_called before) X) where
+      -- behind a touch of another
+      pub past_other : (none : (e : Entry) → P e → NoOthers → places sizes e.before e.steps ≡ []) (t : Touch) (ts : List Touch) (calls : List Entry) → AreTied (t ∷ ts) calls × Every P calls → Finds before (in_cell sizes t)
+          → Standing whole (called_by (in_cell sizes t) (last_called before)) X
+      past_other none (StoredIn a v) ts calls tie finds = sooner
+      past_other none (LoadedFrom a v) ts calls tie finds = sooner
+      past_other none (ChangedIn a f v) ts calls tie finds = sooner
+      past_other none (Called met left) ts [] tie finds = absurd tie.0
+      past_other none (Called met left) ts (call ∷ calls) tie finds =
+          call_stands whole met left call X X (begins call tie.1.0) tie.0.0 tie.0.1 (subst (λ (e : Extent). Standing whole e X) (sym finds.0) sooner)
+          (λ h. stands_past left.steps call.before call.steps X (none call tie.1.0) h)
+      past_other none (Looked u x) ts calls tie finds = sooner
+      past_other none (WasTold m n) ts calls tie finds = sooner
 
-    -- The acts of one touch on top of one trace are one trace: what a load or a change found is what the trace has, and a call
-    -- met all that those of the trace left
-    pub one_more : (i : ℕ) (t : Touch) (calls : List Entry) (X : List ActBy) → AreOne X
-        → ((a v : ℕ) → t ≡ LoadedFrom a v → v ≡ left_at a X)
-        → ((a f v : ℕ) → t ≡ ChangedIn a f v → f ≡ left_at a X)
-        → ((met left : Extent) (call : Entry) (older : List Entry) → t ≡ Called met left → calls ≡ call ∷ older → Every (λ (x : ActBy). LeftUpTo left.steps x.act) X × Every (λ (x : ActBy). EndsBelow (tail sizes call.before) x.act) X)
-        → AreOne (tagged i (told_as sizes t calls) ++ X)
-    one_more i (StoredIn a v) calls X one loads changes meets = (tt, one)
-    one_more i (LoadedFrom a v) calls X one loads changes meets = (loads a v refl, one)
-    one_more i (ChangedIn a f v) calls X one loads changes meets = (changes a f v refl, one)
-    one_more i (Called met left) [] X one loads changes meets = one
-    one_more i (Called met left) (call ∷ calls) X one loads changes meets =
-        let m = meets met left call calls refl refl in
-        subst AreOne (sym (tagged_both i (places sizes call.before call.steps) (Met left.steps ∷ []) X))
-        (placed_all i call.before call.steps (by_thread i (Met left.steps) ∷ X) (tt, m.1) (m.0, one))
-    one_more i (Looked u x) calls X one loads changes meets = one
-    one_more i (WasTold m n) calls X one loads changes meets = one
+      -- behind a thread's, where what a load or a change found is what the trace has
+      pub past_own : (i : ℕ) (t : Touch) (ts : List Touch) (calls : List Entry) → AreTied (t ∷ ts) calls × Every P calls → Finds before (in_cell sizes t)
+          → ((a v : ℕ) → t ≡ LoadedFrom a v → v ≡ left_at a X) → ((a f v : ℕ) → t ≡ ChangedIn a f v → f ≡ left_at a X)
+          → Standing whole (called_by (in_cell sizes t) (last_called before)) (tagged i (told_as sizes t calls) ++ X)
+      past_own i (StoredIn a v) ts calls tie finds loads changes = λ A b long.
+          let h = sooner A b long in record { one = (tt, h.one); left = (tt, h.left); below = (tt, h.below); placed = λ only. ((h.placed only).0, (tt, (h.placed only).1)) }
+      past_own i (LoadedFrom a v) ts calls tie finds loads changes = λ A b long.
+          let h = sooner A b long in record { one = (loads a v refl, h.one); left = (tt, h.left); below = (tt, h.below); placed = λ only. ((h.placed only).0, (tt, (h.placed only).1)) }
+      past_own i (ChangedIn a f v) ts calls tie finds loads changes = λ A b long.
+          let h = sooner A b long in record { one = (changes a f v refl, h.one); left = (tt, h.left); below = (tt, h.below); placed = λ only. ((h.placed only).0, (tt, (h.placed only).1)) }
+      past_own i (Called met left) ts [] tie finds loads changes = absurd tie.0
+      past_own i (Called met left) ts (call ∷ calls) tie finds loads changes =
+          call_stands whole met left call X (tagged i (told_as sizes (Called met left) (call ∷ calls)) ++ X) (begins call tie.1.0) tie.0.0 tie.0.1 (subst (λ (e : Extent). Standing whole e X) (sym finds.0) sooner)
+          (λ h.
+          subst (Stands left.steps (left_by call)) (sym (tagged_both i (places sizes call.before call.steps) (Met left.steps ∷ []) X))
+          (stands_all i left.steps call.before call.steps (by_thread i (Met left.steps) ∷ X)
+          (record { one = (h.left, h.one); left = (omega arith, h.left); below = (tt, h.below); placed = λ only. ((h.placed only).0, (tt, (h.placed only).1)) })))
+      past_own i (Looked u x) ts calls tie finds loads changes = sooner
+      past_own i (WasTold m n) ts calls tie finds loads changes = sooner

@@ -22,3 +22,4 @@ pub mod CounterLaws
 pub mod AppendLaws
 pub mod RecordLaws
 pub mod WholeLaws
+pub mod TailLaws

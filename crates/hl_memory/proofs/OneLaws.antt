@@ -2,6 +2,7 @@
 use Rattle.std.proofs.Common.{◌≡◌, ℕ, zero, suc, ◌+◌, ◌*◌, ◌<◌, ◌≤◌, ◌⊎◌, Bool, true, false, List, [], ◌∷◌, ◌++◌, length, map, refl, ap, sym, ◌∙◌, ⊎_elim, subst, arith, append_assoc}
 use Rattle.std.specs.Prelude.{Option, Some, None, slice_get}
 use Rattle.std.specs.List.{AllByRecursion as Every, list_any, range_with_len}
+use Rattle.std.proofs.lemmas.List.{append-nil}
 use Rattle.hl_model.specs.declared.step.Step.{Step}
 use Rattle.hl_model.specs.declared.step.Step.TheVariants.{Write}
 use Rattle.hl_model.specs.Offsets.{tail}
@@ -12,11 +13,10 @@ use Rattle.hl_history.specs.Lists.{Begins, left_by, IsOf}
 use Rattle.hl_words.specs.declared.view.Extent.{Extent}
 use Rattle.hl_words.specs.declared.view.RiderView.{RiderView}
 use Rattle.hl_words.specs.declared.view.Touch.{Touch}
-use Rattle.hl_words.specs.declared.view.Touch.TheVariants.{Loaded, Changed, Called}
-use Rattle.hl_words.specs.Rule.{TouchBy, by_rider, held, touches_of, IsSerial}
+use Rattle.hl_words.specs.declared.view.Touch.TheVariants.{Loaded, Changed}
+use Rattle.hl_words.specs.Rule.{TouchBy, by_rider, held, last_called, touches_of, Finds, IsSerial}
 use Rattle.hl_words.specs.States.{RiderState, AreTied}
-use Rattle.hl_words.proofs.CallOrder.{met_all}
-use Rattle.hl_words.proofs.Cut.{every_at}
+use Rattle.hl_words.proofs.Cut.{every_at, every_from}
 use Rattle.hl_words.proofs.Orders.{own_more}
 use Rattle.hl_words.proofs.PastProofs.{serial_end, touches_both}
 use Rattle.hl_keeper.specs.Endings.{EndingState}
@@ -24,19 +24,19 @@ use Rattle.hl_domain.specs.Domains.{IsEnding}
 use Rattle.hl_images.specs.Entered.{newest_writes}
 use Rattle.hl_images.specs.Flushes.{HasFlushed}
 use Rattle.hl_images.proofs.ImageLaws.{flushed_by}
-use Rattle.hl_images.proofs.PlaceLaws.{every_both, shorter}
+use Rattle.hl_images.proofs.PlaceLaws.{every_both}
 use Rattle.hl_images.proofs.WordLaws.{calls_at, within}
 use Rattle.hl_images.proofs.WriterLaws.{writes_both}
-use Rattle.hl_memory.specs.Acts.{is_of_pages, in_cells, IsPut, IsWriteAt, IsZeroAt, AreActs, AreActsOf, IsHistory}
+use Rattle.hl_memory.specs.Acts.{is_of_pages, in_cell, in_cells, IsPut, IsWriteAt, IsZeroAt, AreActs, AreActsOf, IsHistory}
 use Rattle.hl_memory.specs.Memory.{AreOpen}
-use Rattle.hl_memory.specs.OneTrace.{ActBy, acts_by, left_at, EndsBelow, LeftUpTo, AreOne, Serves, HasOneTrace, TracesAreOne, page_left}
-use Rattle.hl_memory.specs.Traces.{by_address, acts_of, trace, RiderTraces}
+use Rattle.hl_memory.specs.OneTrace.{ActBy, acts_by, left_at, PlacesNone, Serves, HasOneTrace, TracesAreOne, page_left}
+use Rattle.hl_memory.specs.Traces.{places, by_address, acts_of, trace, RiderTraces}
 use Rattle.hl_memory.proofs.ActLaws.{cells_both}
 use Rattle.hl_memory.proofs.EndLaws.{open_at_end, loaded_at, words_are_memory}
 use Rattle.hl_memory.proofs.FateLaws.{put_tied}
 use Rattle.hl_memory.proofs.FindLaws.{act_is, find_act, IsEntering, ties as acts_tied}
 use Rattle.hl_memory.proofs.BeyondLaws.{PutsBelow, none_of_other, puts_below, nothing_beyond}
-use Rattle.hl_memory.proofs.JoinLaws.{either, not_both, joined, dropped, all_dropped, joined_theirs, joined_each, OnlyThreads, NoneByThreads, joined_leaves, joined_behind, CalledUpTo, all_up_to, all_up_more, joined_up_to, Ties, lower_ties, joined_below, one_more, own_touch, shown_low, shown_high}
+use Rattle.hl_memory.proofs.JoinLaws.{either, not_both, joined, dropped, all_dropped, joined_theirs, joined_each, OnlyThreads, NoneByThreads, joined_leaves, joined_behind, Ties, own_ties, lower_ties, Stands, stands_none, Standing, past_own, past_other, shown_low, shown_high}
 use Rattle.hl_memory.proofs.KeepLaws.{acts_are_kept, acts_from}
 use Rattle.hl_memory.proofs.LoadLaws.{OpenThere, open_cell, open_unswept}
 use Rattle.hl_memory.proofs.OpenLaws.{change_open, changes_find_memory, load_open, open_there, open_find_memory, histories_stand, whose_act}
@@ -179,12 +179,23 @@ module _ (F : Type 0) (sizes : Sizes) (riders : List RiderState) (ending : Endin
       let begins = (of i r at).begins in
       (acts_tied sizes whole r (touches_of i history) (its.each i r at) begins (every_at (λ (z : RiderState). AreTied z.view.touches z.calls) riders ends.tied i r at), begins)
 
-  begin_ties : Ties sizes is_thread page_some (ends.steps_cut ++ ending.journal) history_is.0 (λ i. calls_of (slice_get riders i))
+  -- no others place records
+  abbrev NoOthers : Type 0
+  NoOthers = (i : ℕ) (r : RiderState) → is_thread i ≡ false → slice_get riders i ≡ Some r → PlacesNone sizes r
+
+  abbrev Fits : ℕ → Entry → Type 0
+  Fits i e = Begins (left_by e) (ends.steps_cut ++ ending.journal) × (is_thread i ≡ false → NoOthers → places sizes e.before e.steps ≡ [])
+
+  begin_ties : Ties sizes is_thread Fits history_is.0 (λ i. calls_of (slice_get riders i))
   begin_ties i = by (slice_get riders i) refl
     where
-      by : (o : Option RiderState) → slice_get riders i ≡ o → AreTied (touches_of i history_is.0) (calls_of o) × Every (λ (e : Entry). Begins (left_by e) (ends.steps_cut ++ ending.journal)) (calls_of o)
+      all_fit : (r : RiderState) → slice_get riders i ≡ Some r → Every (Fits i) r.calls
+      all_fit r at = every_from (Fits i) r.calls (λ k e there.
+          (every_at (λ (x : Entry). Begins (left_by x) (ends.steps_cut ++ ending.journal)) r.calls (acts_begin i r at).1 k e there, λ other none. every_at (λ (x : Entry). places sizes x.before x.steps ≡ []) r.calls (none i r other at) k e there))
+
+      by : (o : Option RiderState) → slice_get riders i ≡ o → AreTied (touches_of i history_is.0) (calls_of o) × Every (Fits i) (calls_of o)
       by None at = (subst (λ (l : List Touch). AreTied l []) (sym (history_is.2 i ∙ (chosen i).1.none at)) tt, tt)
-      by (Some r) at = acts_begin i r at
+      by (Some r) at = ((acts_begin i r at).0, all_fit r at)
 
   -- where an address is open, nobody but threads stored at it before
   only_threads : (newer b : List TouchBy) (a : ℕ) → history_is.0 ≡ newer ++ b → OpenThere sizes (ends.steps_cut ++ ending.journal) (map (λ (q : RiderState). q.view) riders) a b → OnlyThreads sizes is_thread a b
@@ -210,23 +221,37 @@ module _ (F : Type 0) (sizes : Sizes) (riders : List RiderState) (ending : Endin
   kept newer b a calls parts o = sym (joined_leaves sizes is_thread a b calls (only_threads newer b a parts o))
 
   -- the acts of the threads are one trace
-  are_one : (newer b : List TouchBy) (calls : ℕ → List Entry) → history_is.0 ≡ newer ++ b → Ties sizes is_thread page_some (ends.steps_cut ++ ending.journal) b calls → AreOne (joined sizes is_thread b calls)
-  are_one newer [] calls is tied = tt
-  are_one newer (t ∷ b) calls is tied =
-      let sooner = are_one (newer ++ t ∷ []) b (dropped t calls) next lower in
+  standing : (newer b : List TouchBy) (calls : ℕ → List Entry) → history_is.0 ≡ newer ++ b → Ties sizes is_thread Fits b calls → Standing sizes is_thread page_some NoOthers (ends.steps_cut ++ ending.journal) (last_called (in_cells sizes b)) (joined sizes is_thread b calls)
+  standing newer [] calls is tied = λ A begins long. by A long
+    where
+      by : (A : List Step) → length A ≡ 0 → Stands sizes is_thread page_some NoOthers 0 A []
+      by [] none = stands_none sizes is_thread page_some NoOthers
+      by (s ∷ A) none = absurd (omega (arith, none))
+  standing newer (t ∷ b) calls is tied =
+      let sooner = standing (newer ++ t ∷ []) b (dropped t calls) next (lower_ties sizes is_thread Fits t b calls tied) in
       ⊎_elim
-      (λ (low : is_thread t.rider ≡ true). subst AreOne (sym (shown_low sizes is_thread t calls X low)) (one_more sizes is_thread page_some t.rider t.touch (calls t.rider) X sooner (loads low) (changes low) meets))
-      (λ (far : is_thread t.rider ≡ false). subst AreOne (sym (shown_high sizes is_thread t calls X far)) sooner)
+      (λ (low : is_thread t.rider ≡ true).
+      subst So (sym (shown_low sizes is_thread t calls X low))
+      (past_own sizes is_thread page_some NoOthers whole (Fits t.rider) (λ e fits. fits.0) (in_cells sizes b) X sooner t.rider t.touch (touches_of t.rider b) (calls t.rider) tie finds (loads low) (changes low)))
+      (λ (far : is_thread t.rider ≡ false).
+      subst So (sym (shown_high sizes is_thread t calls X far))
+      (past_other sizes is_thread page_some NoOthers whole (Fits t.rider) (λ e fits. fits.0) (in_cells sizes b) X sooner (λ e fits. fits.1 far) t.touch (touches_of t.rider b) (calls t.rider) tie finds))
       (either (is_thread t.rider))
     where
       X : List ActBy
       X = joined sizes is_thread b (dropped t calls)
 
+      So : List ActBy → Type 0
+      So = Standing sizes is_thread page_some NoOthers (ends.steps_cut ++ ending.journal) (last_called (in_cells sizes (t ∷ b)))
+
       next : history_is.0 ≡ (newer ++ t ∷ []) ++ b
       next = is ∙ sym (append_assoc newer (t ∷ []) b)
 
-      lower : Ties sizes is_thread page_some (ends.steps_cut ++ ending.journal) b (dropped t calls)
-      lower = lower_ties sizes is_thread page_some whole t b calls tied
+      tie : AreTied (t.touch ∷ touches_of t.rider b) (calls t.rider) × Every (Fits t.rider) (calls t.rider)
+      tie = own_ties sizes is_thread Fits t b calls t.rider refl tied
+
+      finds : Finds (in_cells sizes b) (in_cell sizes t.touch)
+      finds = (serial_end (in_cells sizes newer) (in_cells sizes (t ∷ b)) (subst IsSerial (sym its.cells ∙ ap (in_cells sizes) is ∙ cells_both sizes newer (t ∷ b)) ends.ruled.rule.order.1.serial)).0
 
       here : (u : Touch) → t.touch ≡ u → history_is.0 ≡ newer ++ by_rider t.rider u ∷ b
       here u e = is ∙ ap (λ (x : Touch). newer ++ by_rider t.rider x ∷ b) e
@@ -247,19 +272,12 @@ module _ (F : Type 0) (sizes : Sizes) (riders : List RiderState) (ending : Endin
           changes_find_memory F sizes riders ending ends page_some frames_some history newer b its t.rider a f v parts
           ∙ kept (newer ++ t ∷ []) b a (dropped t calls) next (open_there F sizes riders ending ends page_some frames_some history its t.rider newer b (Changed a f v) a parts o)
 
-      meets : (met left : Extent) (call : Entry) (older : List Entry) → t.touch ≡ Called met left → calls t.rider ≡ call ∷ older
-          → Every (λ (x : ActBy). LeftUpTo left.steps x.act) (joined sizes is_thread b (dropped t calls)) × Every (λ (x : ActBy). EndsBelow (tail sizes call.before) x.act) (joined sizes is_thread b (dropped t calls))
-      meets met left call older e own =
-          let parts = here (Called met left) e in
-          let cells = sym its.cells ∙ ap (in_cells sizes) parts ∙ cells_both sizes newer (by_rider t.rider (Called met left) ∷ b) in
-          let serial = serial_end (in_cells sizes newer) (by_rider t.rider (Called met left) ∷ in_cells sizes b) (subst IsSerial cells ends.ruled.rule.order.1.serial) in
-          let few = all_up_to sizes is_thread met b (met_all t.rider met left (in_cells sizes b) serial) in
-          let its_tie = subst (λ (ts : List Touch). AreTied ts (calls t.rider) × Every (λ (x : Entry). Begins (left_by x) whole) (calls t.rider)) (own_touch t b t.rider refl ∙ ap (λ (u : Touch). u ∷ touches_of t.rider b) e) (tied t.rider) in
-          let tie = subst (λ (es : List Entry). AreTied (Called met left ∷ touches_of t.rider b) es × Every (λ (x : Entry). Begins (left_by x) whole) es) own its_tie in
-          let begins = shorter sizes whole page_some frames_some ends.accepted call.before call.steps tie.1.0 in (
-            joined_up_to sizes is_thread left.steps b (dropped t calls) (all_up_more sizes is_thread met.steps left.steps (omega (arith, tie.0.0, tie.0.1)) b few),
-            joined_below sizes is_thread page_some frames_some whole ends.accepted call.before begins b (dropped t calls) lower (subst (λ (n : ℕ). Every (λ (x : TouchBy). CalledUpTo sizes is_thread n x.touch) b) tie.0.0 few),
-          )
+  -- all of them
+  stands : Stands sizes is_thread page_some NoOthers (length (ends.steps_cut ++ ending.journal)) (ends.steps_cut ++ ending.journal) (joined sizes is_thread history_is.0 (λ i. calls_of (slice_get riders i)))
+  stands =
+      let long : length whole ≡ (last_called (in_cells sizes history_is.0)).steps = ap (λ (e : Extent). e.steps) (sym (ap last_called its.cells ∙ ends.ruled.called_is)) in
+      subst (λ (n : ℕ). Stands sizes is_thread page_some NoOthers n whole (joined sizes is_thread history_is.0 (λ i. calls_of (slice_get riders i)))) (sym long)
+      (standing [] history_is.0 (λ i. calls_of (slice_get riders i)) refl begin_ties whole ([], sym (append-nil whole)) long)
 
   abbrev all_acts : List ActBy
   all_acts = joined sizes is_thread history_is.0 (λ i. calls_of (slice_get riders i))
@@ -326,12 +344,13 @@ module _ (F : Type 0) (sizes : Sizes) (riders : List RiderState) (ending : Endin
   pub one_trace : HasOneTrace sizes riders ending ends is_thread
   one_trace = record {
     all = all_acts;
-    one = are_one [] history_is.0 (λ i. calls_of (slice_get riders i)) refl begin_ties;
+    one = stands.one;
     each = each_own;
     theirs = joined_theirs sizes is_thread history_is.0 (λ i. calls_of (slice_get riders i));
     words = λ a unclosed below.
         words_are_memory F sizes riders ending ends page_some frames_some history its a below unclosed
         ∙ kept [] history a (λ i. calls_of (slice_get riders i)) refl (open_at_end F sizes riders ending ends history its a below unclosed);
+    placed = stands.placed;
     beyond = λ a far. nothing_beyond sizes page_some whole a all_acts far own_below;
     pages = page_is;
   }

@@ -1,11 +1,11 @@
 -- What a thread that loads a record's words has.
-use Rattle.std.proofs.Common.{◌≡◌, ◌≢◌, ℕ, zero, suc, ◌+◌, ◌-◌, ◌<◌, ◌≤◌, ◌⊎◌, List, [], ◌∷◌, ◌++◌, length, Some, slice_get, refl, ap, sym, ◌∙◌, ⊎_elim, subst, arith, append_assoc}
+use Rattle.std.proofs.Common.{◌≡◌, ◌≢◌, ℕ, zero, suc, ◌+◌, ◌-◌, List, [], ◌∷◌, ◌++◌, length, Some, slice_get, refl, ap, sym, ◌∙◌, ⊎_elim, arith, append_assoc}
 use Rattle.std.proofs.lemmas.Bool.{cases_eq}
 use Rattle.hl_images.proofs.WordLaws.{within}
 use Rattle.hl_memory.specs.declared.act.Act.{Act}
 use Rattle.hl_memory.specs.declared.act.Act.TheVariants.{Loaded}
 use Rattle.hl_memory.specs.OneTrace.{ActBy, by_thread, acts_by}
-use Rattle.hl_memory.specs.Records.{Appended, loads_from, RecordsAreWhole, RecordsAreFoundBy}
+use Rattle.hl_memory.specs.Records.{loads_from, RecordsAreWhole, RecordsAreFoundBy}
 use Rattle.hl_memory.proofs.ThreadLaws.{own_act, other_act}
 use Rattle.hl_memory.proofs.RecordLaws.{records_are_found, records_are_read}
 

@@ -6,3 +6,4 @@ pub mod Traces
 pub mod OneTrace
 pub mod Counters
 pub mod Records
+pub mod Tails

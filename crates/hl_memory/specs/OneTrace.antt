@@ -1,7 +1,7 @@
 -- One trace of all threads: what they did in one order, as one memory by address did it.
 use Rattle.std.specs.Prelude.{ℕ, ◌≡◌, ◌<◌, Bool, true, false, ◌≤◌, ◌+◌, ◌*◌, ◌==◌, if◌then◌else◌, List, [], ◌∷◌, ◌++◌, map, Some, slice_get, slice_index}
 use Rattle.std.specs.List.{AllByRecursion, range_with_len}
-use Rattle.hl_model.specs.Offsets.{tail}
+use Rattle.hl_model.specs.Offsets.{place_of, tail}
 use Rattle.hl_model.specs.Settled.{closed}
 use Rattle.hl_model.specs.Sizes.{Sizes}
 use Rattle.hl_words.specs.States.{RiderState}
@@ -13,7 +13,7 @@ use Rattle.hl_images.specs.Flushes.{HasFlushed}
 use Rattle.hl_images.specs.Kept.{RiderEnters}
 use Rattle.hl_memory.specs.declared.act.Act.{Act}
 use Rattle.hl_memory.specs.declared.act.Act.TheVariants.{Placed, Stored, Loaded, Changed, Met}
-use Rattle.hl_memory.specs.Traces.{trace, RiderTraces}
+use Rattle.hl_memory.specs.Traces.{places, trace, RiderTraces}
 
 -- an act, and the number of the thread whose it is
 pub record ActBy : Type 0 where
@@ -69,6 +69,31 @@ abbrev pub AreOne : List ActBy → Type 0
 AreOne [] = Unit {0}
 AreOne (t ∷ before) = Follows before t.act × AreOne before
 
+-- where a record ends, if the act placed one; else this
+abbrev pub ends_at : Act → ℕ → ℕ
+ends_at (Placed a n) end = a + n
+ends_at _ end = end
+
+-- where the newest record ends, and 0 where none was placed; the newest act stands first
+abbrev pub placed_end : List ActBy → ℕ
+placed_end [] = 0
+placed_end (t ∷ before) = ends_at t.act (placed_end before)
+
+-- if the act placed a record, it lies where this says that those before it end, or at the start of the next page, where the
+-- page has no room for it
+abbrev pub LiesBehind : ℕ → ℕ → Act → Type 0
+LiesBehind page_size end (Placed a n) = a ≡ place_of page_size end n
+LiesBehind page_size end _ = Unit {0}
+
+-- so it is with each record
+abbrev pub AreInRow : ℕ → List ActBy → Type 0
+AreInRow page_size [] = Unit {0}
+AreInRow page_size (t ∷ before) = LiesBehind page_size (placed_end before) t.act × AreInRow page_size before
+
+-- the rider's calls placed no record
+abbrev pub PlacesNone : Sizes → RiderState → Type 0
+PlacesNone sizes r = AllByRecursion (λ e. places sizes e.before e.steps ≡ []) r.calls
+
 -- a rider that serves threads: it stores only to sweep pages, so its calls write nothing
 pub record Serves (sizes : Sizes) (r : RiderState) : Type 0 where
   pub enters : RiderEnters sizes r
@@ -76,7 +101,8 @@ pub record Serves (sizes : Sizes) (r : RiderState) : Type 0 where
 
 -- All that those riders did which are threads, in one order, in which each finds what that memory has: each thread's acts
 -- are its trace. At the end the words of all addresses that aren't closed are that memory, and so are the words of each
--- page that was flushed; at the tail or beyond nothing was stored
+-- page that was flushed; at the tail or beyond nothing was stored. If none but threads place records, these lie in a row, and
+-- the newest ends at the tail
 pub record HasOneTrace {F : Type 0} (sizes : Sizes) (riders : List RiderState) (ending : EndingState F)
     (ends : IsEnding sizes riders ending) (is_thread : ℕ → Bool) : Type 0 where
   pub all : List ActBy
@@ -88,6 +114,8 @@ pub record HasOneTrace {F : Type 0} (sizes : Sizes) (riders : List RiderState) (
       → a < tail sizes (ends.steps_cut ++ ending.journal)
       → slice_index ending.words.words (cell_at sizes a) ≡ left_at a all
   pub beyond : (a : ℕ) → tail sizes (ends.steps_cut ++ ending.journal) ≤ a → left_at a all ≡ 0
+  pub placed : ((i : ℕ) (r : RiderState) → is_thread i ≡ false → slice_get riders i ≡ Some r → PlacesNone sizes r)
+      → (tail sizes (ends.steps_cut ++ ending.journal) ≡ placed_end all) × AreInRow sizes.page_size all
   pub pages : (i page : ℕ) (image : List ℕ) (r : RiderState) → slice_get riders i ≡ Some r
       → HasFlushed sizes page image r → image ≡ page_left sizes page all
 

@@ -5,6 +5,7 @@ ghost use Rattle.hl_memory.specs.Images.{ImagesAreMemory, ImagesAreSumsAnywhere,
 ghost use Rattle.hl_memory.specs.Keeping.{ActsAreKept, ActsStand, CallsMeetView};
 ghost use Rattle.hl_memory.specs.OneTrace.{TracesAreOne};
 ghost use Rattle.hl_memory.specs.Memory.{CellsAreMemory, ChangesFindMemory, HistoriesStand, LoadsFindMemory, OneMemory, OpenFindMemory, SeenIsOpen, WordsAreMemory};
+ghost use Rattle.hl_memory.specs.Tails.{NoneAreSkipped, TailIsTheSum};
 ghost use Rattle.hl_memory.specs.Records.{OthersAreZero, RecordsAreApart, RecordsAreFound, RecordsAreFoundBy, RecordsAreRead, RecordsAreWhole, RecordsStay};
 
 use hl_action::Task;
@@ -147,4 +148,15 @@ pub fn records_are_whole()
 /// record there.
 pub fn others_are_zero()
     ensures { OthersAreZero }
+{}
+
+/// In one trace no record ends above the newest, and that one ends at the sum of all lengths and of what was skipped at the ends
+/// of pages.
+pub fn tail_is_the_sum()
+    ensures { TailIsTheSum }
+{}
+
+/// Where all records have one length, of which a page has room for a whole number, nothing is skipped.
+pub fn none_are_skipped()
+    ensures { NoneAreSkipped }
 {}
