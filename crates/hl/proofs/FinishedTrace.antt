@@ -9,7 +9,7 @@ use Rattle.hl_words.specs.States.{RiderState}
 use Rattle.hl_words.proofs.Cut.{every_weaker}
 use Rattle.hl_memory.specs.declared.act.Act.{Act}
 use Rattle.hl_memory.specs.declared.act.Act.TheVariants.{Placed, Stored, Loaded, Changed, Met}
-use Rattle.hl_memory.specs.OneTrace.{ActBy, by_thread, acts_by, leaves_at, left_at, EndsBelow, LeftUpTo, Follows, AreOne, HasOneTrace, Serves}
+use Rattle.hl_memory.specs.OneTrace.{ActBy, by_thread, acts_by, leaves_at, left_at, ends_at, placed_end, EndsBelow, LeftUpTo, Follows, LiesBehind, AreInRow, AreOne, HasOneTrace, PlacesNone, Serves}
 use Rattle.hl_memory.specs.Traces.{trace, RiderTraces}
 use Rattle.hl_memory.proofs.JoinLaws.{not_both}
 use Rattle.hl_crew.specs.declared.limits.Cuts.{Cuts}
@@ -43,6 +43,14 @@ module _ (number : ℕ → ℕ) where
   pub numbered_one : (all : List ActBy) → AreOne all → AreOne (map (λ t. by_thread (number t.thread) t.act) all)
   numbered_one [] one = tt
   numbered_one (t ∷ all) one = (numbered_follows all t.act one.0, numbered_one all one.1)
+
+  pub numbered_end : (all : List ActBy) → placed_end (map (λ t. by_thread (number t.thread) t.act) all) ≡ placed_end all
+  numbered_end [] = refl
+  numbered_end (t ∷ all) = ap (ends_at t.act) (numbered_end all)
+
+  pub numbered_row : (page_size : ℕ) (all : List ActBy) → AreInRow page_size all → AreInRow page_size (map (λ t. by_thread (number t.thread) t.act) all)
+  numbered_row page_size [] row = tt
+  numbered_row page_size (t ∷ all) row = (subst (λ (end : ℕ). LiesBehind page_size end t.act) (sym (numbered_end all)) row.0, numbered_row page_size all row.1)
 
   -- who alone has a number has the same acts under it
   pub numbered_acts : (i j : ℕ) (all : List ActBy) → number i ≡ j → Every (λ (t : ActBy). number t.thread ≡ j → t.thread ≡ i) all → acts_by j (map (λ t. by_thread (number t.thread) t.act) all) ≡ acts_by i all
@@ -148,7 +156,7 @@ module _ {Out : Type 0} (F : Type 0) (o : Opening Sizes) (cuts : Cuts) (Returns 
       subst (RiderTraces o.params) (same_at (r.riders ++ r.finish.last ∷ []) (length r.riders) r.finish.last q (last_at r.riders r.finish.last) there) r.finish.finish.traces)
       (who_is (length finished.outs.items) r.count i own)
 
-  crew : (i : ℕ) (q : RiderState) → who (length finished.outs.items) r.count i ≡ false → slice_get (r.riders ++ r.finish.last ∷ []) i ≡ Some q → Serves o.params q × FlushesTaken Took o.params q
+  crew : (i : ℕ) (q : RiderState) → who (length finished.outs.items) r.count i ≡ false → slice_get (r.riders ++ r.finish.last ∷ []) i ≡ Some q → Serves o.params q × PlacesNone o.params q × FlushesTaken Took o.params q
   crew i q other at =
       let is = who_not (length finished.outs.items) r.count i other in
       let inside : i < length r.riders = omega (arith, within (r.riders ++ r.finish.last ∷ []) i q at, length-append r.riders (r.finish.last ∷ []), is.1, r.returned.back) in
@@ -188,6 +196,8 @@ module _ {Out : Type 0} (F : Type 0) (o : Opening Sizes) (cuts : Cuts) (Returns 
       words = λ a unclosed below. holds.words a unclosed below ∙ left_same a;
       kept = holds.kept;
       beyond = λ a far. sym (left_same a) ∙ holds.beyond a far;
+      in_row = numbered_row (number_of (length finished.outs.items)) o.params.page_size of_all.all holds.in_row;
+      tail = holds.tail ∙ sym (numbered_end (number_of (length finished.outs.items)) of_all.all);
       pages = λ page less.
           subst (λ (words : List ℕ). Took page (image page words))
           (words_same (λ a. left_at a of_all.all) (λ a. left_at a (map (λ t. by_thread (number_of (length finished.outs.items) t.thread) t.act) of_all.all)) left_same (range_with_len (page * o.params.page_size) o.params.page_size))

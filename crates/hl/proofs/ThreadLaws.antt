@@ -7,8 +7,9 @@ use Rattle.std.proofs.lemmas.Bool.{lt-ltb}
 use Rattle.hl_model.specs.declared.fault.Fault.{Fault}
 use Rattle.hl_model.specs.declared.fault.Fault.TheVariants.{Stranger}
 use Rattle.hl_model.specs.declared.step.Step.{Step}
-use Rattle.hl_model.specs.declared.step.Step.TheVariants.{Write, FlushTake, FlushDone, CleanTake, CleanDone}
+use Rattle.hl_model.specs.declared.step.Step.TheVariants.{Allocate, Write, FlushTake, FlushDone, CleanTake, CleanDone}
 use Rattle.hl_model.specs.declared.snapshot.Snapshot.{Snapshot}
+use Rattle.hl_model.specs.Offsets.{tail}
 use Rattle.hl_model.specs.Pages.{flushes, flushed_run}
 use Rattle.hl_model.specs.Sizes.{Sizes, AreInRange}
 use Rattle.hl_laws.proofs.PageFacts.{head-le-flushed}
@@ -23,8 +24,8 @@ use Rattle.hl_images.specs.Entered.{newest_writes}
 use Rattle.hl_images.specs.Kept.{RiderEnters}
 use Rattle.hl_memory.specs.declared.act.Act.{Act}
 use Rattle.hl_memory.specs.Acts.{is_of_pages, NoneOfPages}
-use Rattle.hl_memory.specs.OneTrace.{acts_by, page_left, ActBy, Serves, HasOneTrace}
-use Rattle.hl_memory.specs.Traces.{trace, RiderTraces}
+use Rattle.hl_memory.specs.OneTrace.{acts_by, page_left, placed_end, ActBy, AreInRow, PlacesNone, Serves, HasOneTrace}
+use Rattle.hl_memory.specs.Traces.{placed_by, places, trace, RiderTraces}
 use Rattle.hl_memory.proofs.OneLaws.{traces_are_one}
 use Rattle.hl_crew.specs.Riders.{has_flushed, is_crew_step, MakesCrewSteps}
 use Rattle.hl.specs.declared.opening.Opening.{Opening}
@@ -82,6 +83,16 @@ none_written : (calls : List Entry) → Every (λ (e : Entry). Every (λ (s : St
 none_written [] all = tt
 none_written (e ∷ calls) all = (no_writes e.steps [] all.0, none_written calls all.1)
 
+-- nor do they place records
+no_places : (sizes : Sizes) (A steps : List Step) → Every (λ (s : Step). is_crew_step s ≡ true) steps → places sizes A steps ≡ []
+no_places sizes A [] all = refl
+no_places sizes A (Allocate t n ∷ steps) all = absurd (cc all.0)
+no_places sizes A (s ∷ steps) all = ap (λ (l : List Act). l ++ placed_by sizes A s) (no_places sizes (A ++ s ∷ []) steps all.1)
+
+none_placed : (sizes : Sizes) (calls : List Entry) → Every (λ (e : Entry). Every (λ (s : Step). is_crew_step s ≡ true) e.steps) calls → Every (λ (e : Entry). places sizes e.before e.steps ≡ []) calls
+none_placed sizes [] all = tt
+none_placed sizes (e ∷ calls) all = (no_places sizes e.before e.steps all.0, none_placed sizes calls all.1)
+
 -- who neither flushes nor cleans answered no page as flushed
 flushes_none : (page : ℕ) (steps : List Step) → list_any is_of_pages steps ≡ false → list_any (flushes page) steps ≡ false
 flushes_none page [] e = refl
@@ -104,7 +115,7 @@ page_within page size run less =
 -- Where some of a log's riders are threads, which have traces, and the others serve them and have flushed what was taken
 module _ (F : Type 0) (sizes : Sizes) (Took : ℕ → List ℕ → Type 0) (riders : List RiderState) (ending : EndingState F) (ends : IsEnding sizes riders ending) (is_thread : ℕ → Bool)
     (page_some : 0 < sizes.page_size) (frames_some : 0 < sizes.frames) (threads : (i : ℕ) (q : RiderState) → is_thread i ≡ true → slice_get riders i ≡ Some q → RiderTraces sizes q)
-    (crew : (i : ℕ) (q : RiderState) → is_thread i ≡ false → slice_get riders i ≡ Some q → Serves sizes q × FlushesTaken Took sizes q) where
+    (crew : (i : ℕ) (q : RiderState) → is_thread i ≡ false → slice_get riders i ≡ Some q → Serves sizes q × PlacesNone sizes q × FlushesTaken Took sizes q) where
   pub trace_of_all : HasOneTrace sizes riders ending ends is_thread
   trace_of_all = traces_are_one F sizes riders ending ends is_thread page_some frames_some threads (λ i q other at. (crew i q other at).0)
 
@@ -114,8 +125,11 @@ module _ (F : Type 0) (sizes : Sizes) (Took : ℕ → List ℕ → Type 0) (ride
       by : (b : Bool) → is_thread i ≡ b → Took page (image page (page_left sizes page trace_of_all.all))
       by true own = absurd (let contrary : false ≡ true = sym (flushed_none page q.calls (threads i q own at).pages) ∙ flushed in cc)
       by false other =
-          let t = (crew i q other at).1 page flushed in
+          let t = (crew i q other at).2 page flushed in
           subst (λ (words : List ℕ). Took page (image page words)) (trace_of_all.pages i page t.0 q at t.2) t.1
+
+  in_row : (tail sizes (ends.steps_cut ++ ending.journal) ≡ placed_end trace_of_all.all) × AreInRow sizes.page_size trace_of_all.all
+  in_row = trace_of_all.placed (λ i q other at. (crew i q other at).1)
 
   pub held_of_all : HoldsTrace sizes Took ending trace_of_all.all
   held_of_all = record {
@@ -134,6 +148,8 @@ module _ (F : Type 0) (sizes : Sizes) (Took : ℕ → List ℕ → Type 0) (ride
         let flushed_is = ap (λ (s : Snapshot). s.six.flushed) ends.snapshot_is in
         omega (arith, closed_is, flushed_is, closed-le-head sizes list ends.accepted, head-le-flushed sizes list ends.accepted);
     beyond = λ a far. let tail_is = ap (λ (s : Snapshot). s.six.tail) ends.snapshot_is in trace_of_all.beyond a (omega (arith, far, tail_is));
+    in_row = in_row.1;
+    tail = ap (λ (s : Snapshot). s.six.tail) ends.snapshot_is ∙ in_row.0;
   }
 
 -- the acts of a rider that stood in a session
@@ -166,7 +182,7 @@ module _ {Out : Type 0} (F : Type 0) (Returns : ℕ → SessionState → Session
       let o = there_is outs i less in
       subst (RiderTraces log.sizes) (is_read riders i q (new_rider i) at) (stood i o.0 o.1).traces
 
-  pub crew_serves : (i : ℕ) (q : RiderState) → length outs ≤ i → slice_get riders i ≡ Some q → Serves log.sizes q × FlushesTaken Took log.sizes q
+  pub crew_serves : (i : ℕ) (q : RiderState) → length outs ≤ i → slice_get riders i ≡ Some q → Serves log.sizes q × PlacesNone log.sizes q × FlushesTaken Took log.sizes q
   crew_serves i q far at =
       let n = length (oks outs) in
       let beyond : n ≤ i = omega (arith, far, count_is) in (
@@ -174,6 +190,7 @@ module _ {Out : Type 0} (F : Type 0) (Returns : ℕ → SessionState → Session
           enters = from_on (RiderEnters log.sizes) n riders r.enters i q beyond at;
           writes = none_written q.calls (from_on MakesCrewSteps n riders r.makes i q beyond at);
         },
+        none_placed log.sizes q.calls (from_on MakesCrewSteps n riders r.makes i q beyond at),
         from_on (FlushesTaken Took log.sizes) n riders r.images i q beyond at,
       )
 
@@ -185,13 +202,10 @@ module _ {Out : Type 0} (F : Type 0) (Returns : ℕ → SessionState → Session
 -- Where these are all riders of a log that was closed
 module _ {Out : Type 0} (F : Type 0) (Returns : ℕ → SessionState → SessionState → Out → Type 0) (Took : ℕ → List ℕ → Type 0) (log : DomainState) (may_cut : Bool) (outs : List Out) (riders : List RiderState) (ending : EndingState F)
     (page_some : 0 < log.sizes.page_size) (frames_some : 0 < log.sizes.frames) (r : AllReturned F log may_cut Returns Took (map (λ out. Ok out) outs) riders) (ends : IsEnding log.sizes riders ending) where
-  abbrev is_first : ℕ → Bool
-  is_first i = ltb i (length outs)
-
   threads : (i : ℕ) (q : RiderState) → ltb i (length outs) ≡ true → slice_get riders i ≡ Some q → RiderTraces log.sizes q
   threads i q first = thread_traces F Returns Took log may_cut log.riders outs riders r i q (ltb-true i (length outs) first)
 
-  crew : (i : ℕ) (q : RiderState) → ltb i (length outs) ≡ false → slice_get riders i ≡ Some q → Serves log.sizes q × FlushesTaken Took log.sizes q
+  crew : (i : ℕ) (q : RiderState) → ltb i (length outs) ≡ false → slice_get riders i ≡ Some q → Serves log.sizes q × PlacesNone log.sizes q × FlushesTaken Took log.sizes q
   crew i q other = crew_serves F Returns Took log may_cut log.riders outs riders r i q (ltb-false i (length outs) other)
 
   of_all : HasOneTrace log.sizes riders ending ends (λ i. ltb i (length outs))

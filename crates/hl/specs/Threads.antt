@@ -10,7 +10,7 @@ use Rattle.hl_keeper.specs.Passes.{cell_at}
 use Rattle.hl_domain.specs.Domains.{DomainState, IsEnding}
 use Rattle.hl_image.specs.Image.{image}
 use Rattle.hl_memory.specs.declared.act.Act.{Act}
-use Rattle.hl_memory.specs.OneTrace.{ActBy, acts_by, left_at, page_left, AreOne}
+use Rattle.hl_memory.specs.OneTrace.{ActBy, acts_by, left_at, page_left, placed_end, AreInRow, AreOne}
 use Rattle.hl.specs.declared.finished.Finished.{Finished}
 use Rattle.hl.specs.Closings.{AllReturned}
 use Rattle.hl.specs.LastSession.{Finishing}
@@ -30,7 +30,7 @@ pub record ThreadActs {Out : Type 0} (Returns : SessionState → SessionState �
 
 -- At a log's end memory and device have what these acts leave: memory the words from the closed offset to the tail, the
 -- device each page below the flushed offset, of whose image so much holds; and no word is in neither. At the tail and beyond
--- nothing was stored
+-- nothing was stored; the records lie in a row, and the newest ends at the tail
 pub record HoldsTrace {F : Type 0} (sizes : Sizes) (Took : ℕ → List ℕ → Type 0) (ending : EndingState F)
     (all : List ActBy) : Type 0 where
   pub words : (a : ℕ) → ending.snapshot.six.closed ≤ a → a < ending.snapshot.six.tail
@@ -39,6 +39,8 @@ pub record HoldsTrace {F : Type 0} (sizes : Sizes) (Took : ℕ → List ℕ → 
       → Took page (image page (page_left sizes page all))
   pub kept : ending.snapshot.six.closed ≤ ending.snapshot.six.flushed
   pub beyond : (a : ℕ) → ending.snapshot.six.tail ≤ a → left_at a all ≡ 0
+  pub in_row : AreInRow sizes.page_size all
+  pub tail : ending.snapshot.six.tail ≡ placed_end all
 
 -- All that threads did which returned these, in one order: each load and each change found what the newest store before it
 -- at its very address left. At the end memory and device have what it leaves
