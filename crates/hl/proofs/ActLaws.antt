@@ -19,8 +19,7 @@ use Rattle.hl_drain.specs.declared.action.Ask.{Ask}
 use Rattle.hl_drain.specs.declared.action.Ask.TheVariants.{User as AskUser, Settle as AskSettle, Close as AskClose}
 use Rattle.hl_core.specs.Holding.{least_free}
 use Rattle.hl_core.specs.Steps.{asking}
-use Rattle.hl_words.specs.declared.view.Known.{Known}
-use Rattle.hl_words.specs.States.{RiderState, with_view}
+use Rattle.hl_words.specs.States.{RiderState}
 use Rattle.hl_words.specs.Views.{told}
 use Rattle.hl_words.proofs.Cut.{every_append}
 use Rattle.hl_pass.specs.declared.region.Region.{Region}
@@ -40,7 +39,7 @@ use Rattle.hl_memory.specs.declared.act.Act.TheVariants.{Placed, Stored, Loaded,
 use Rattle.hl_memory.specs.Acts.{is_of_pages}
 use Rattle.hl_memory.specs.Traces.{moves_slot, placed_by, trace, RiderTraces, PassTraces, RiderDoes, PassDoes}
 use Rattle.hl_memory.proofs.KeepLaws.{calls_meet_view}
-use Rattle.hl_memory.proofs.TraceLaws.{told_pass, rests, acquires, stores, changes, loads, compares, looks, news, safe_looks, goes_on, call, refused, releases}
+use Rattle.hl_memory.proofs.TraceLaws.{rests, acquires, stores, changes, loads, compares, looks, news, safe_looks, goes_on, call, refused, releases}
 use Rattle.hl_crew.specs.declared.limits.Cuts.{Cuts}
 use Rattle.hl_crew.specs.declared.limits.Cuts.TheVariants.{Never, EachTurn, Above}
 use Rattle.hl_crew.specs.Cutting.{MakesRoom, EndsTurn}
@@ -303,9 +302,6 @@ module _ (F : Type 0) (log : DomainState) where
 
 -- what a pass does without the lock
 module _ (sizes : Sizes) (old new : PassRecord) where
-  pub told_past : (past : Known) → new.rider ≡ with_view (told past old.rider.view) old.rider → new ≡ with_rider new.rider old → PassTraces sizes old → PassDoes sizes [] old.rider new
-  told_past past rider is h = subst (PassDoes sizes [] old.rider) (sym (is ∙ ap (λ (r : RiderState). with_rider r old) rider)) (told_pass sizes past old h)
-
   loads_safe : LoadsSafe old new → PassTraces sizes old → PassDoes sizes [] old.rider new
   loads_safe l h = subst (PassDoes sizes [] old.rider) (sym l.pass) (safe_looks sizes _ old h)
 

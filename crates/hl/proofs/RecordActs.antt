@@ -1,5 +1,5 @@
 -- What a session's records put into its trace.
-use Rattle.std.proofs.Common.{◌≡◌, ℕ, suc, ◌+◌, ◌<◌, ◌≤◌, List, [], ◌∷◌, ◌++◌, length, take, set, get_or, refl, ap, sym, ◌∙◌, subst, inl, inr, arith, append_assoc}
+use Rattle.std.proofs.Common.{◌≡◌, ℕ, suc, ◌+◌, ◌<◌, ◌≤◌, List, [], ◌∷◌, ◌++◌, length, take, set, get_or, refl, ap, sym, ◌∙◌, inl, inr, arith, append_assoc}
 use Rattle.std.specs.Prelude.{Result, Ok, Err, MatchResult}
 use Rattle.std.specs.List.{AllByRecursion as Every, flat_map}
 use Rattle.std.proofs.Math.Seq.{take-suc, take-suc-set}
@@ -85,10 +85,6 @@ stores_stop a k words s m q less x y = (
   less,
   (y.0 ++ x.0, without_both y.0 x.0 ∙ ap (λ (l : List Act). l ++ without_met x.0) (without_all y.0 y.1) ∙ x.1, did_then x.0 y.0 s m q x.2 y.2),
 )
-
--- all words of a row
-pub stores_all : (a k : ℕ) (words : List ℕ) (s m : SessionState) → take k words ≡ words → Stores a (take k words) s m → Stores a words s m
-stores_all a k words s m all h = subst (λ l. Stores a l s m) all h
 
 -- a record that was placed and stored
 pub places_all : (a : ℕ) (words : List ℕ) (s m q : SessionState) → Meets (Placed a (length words) ∷ []) s m → Stores a words m q → PlacesBy words (Ok a) s q

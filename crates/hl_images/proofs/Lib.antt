@@ -9,6 +9,4 @@ pub mod CellLaws
 pub mod WriterLaws
 pub mod TakenLaws
 pub mod KeptLaws
-pub mod AddLaws
-pub mod SumLaws
 pub mod StoreLaws

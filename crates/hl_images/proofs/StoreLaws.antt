@@ -7,7 +7,7 @@ use Rattle.hl_history.specs.declared.view.Entry.{Entry}
 use Rattle.hl_history.specs.Lists.{left_by}
 use Rattle.hl_words.specs.declared.view.Extent.{Extent}
 use Rattle.hl_words.specs.declared.view.Touch.{Touch}
-use Rattle.hl_words.specs.declared.view.Touch.TheVariants.{Stored, Loaded, Changed, Called, Looked, Met}
+use Rattle.hl_words.specs.declared.view.Touch.TheVariants.{Stored, Called}
 use Rattle.hl_words.specs.States.{AreTied}
 use Rattle.hl_images.specs.Entered.{IsSweepOf, HasZero, IsSwept, FreesSwept}
 
@@ -44,9 +44,6 @@ push_at sizes Q t ts e h =
 pub find_call : (sizes : Sizes) (Q : Entry → Type 0) (i : ℕ) (e : Entry) (ts : List Touch) (calls : List Entry) → slice_get calls i ≡ Some e → AreTied ts calls → FreesSwept sizes ts calls → Every Q calls → CallAt sizes Q ts e
 find_call sizes Q i e [] [] at tied frees holds = absurd cc
 find_call sizes Q i e [] (call ∷ calls) at tied frees holds = absurd tied
-find_call sizes Q i e (Stored d v ∷ before) calls at tied frees holds = push_at sizes Q (Stored d v) before e (find_call sizes Q i e before calls at tied frees holds)
-find_call sizes Q i e (Loaded d v ∷ before) calls at tied frees holds = push_at sizes Q (Loaded d v) before e (find_call sizes Q i e before calls at tied frees holds)
-find_call sizes Q i e (Changed d f v ∷ before) calls at tied frees holds = push_at sizes Q (Changed d f v) before e (find_call sizes Q i e before calls at tied frees holds)
 find_call sizes Q i e (Called met left ∷ before) [] at tied frees holds = absurd tied
 find_call sizes Q zero e (Called met left ∷ before) (call ∷ calls) at tied frees holds =
     let same : call ≡ e = cc at in
@@ -64,8 +61,7 @@ find_call sizes Q zero e (Called met left ∷ before) (call ∷ calls) at tied f
       swept = λ p is. frees.0 p (ap (λ (x : Entry). x.steps) same ∙ is);
     }
 find_call sizes Q (suc i) e (Called met left ∷ before) (call ∷ calls) at tied frees holds = push_at sizes Q (Called met left) before e (find_call sizes Q i e before calls at tied.2 frees.1 holds.1)
-find_call sizes Q i e (Looked w x ∷ before) calls at tied frees holds = push_at sizes Q (Looked w x) before e (find_call sizes Q i e before calls at tied frees holds)
-find_call sizes Q i e (Met m x ∷ before) calls at tied frees holds = push_at sizes Q (Met m x) before e (find_call sizes Q i e before calls at tied frees holds)
+find_call sizes Q i e (t ∷ before) calls at tied frees holds = push_at sizes Q t before e (find_call sizes Q i e before calls at tied frees holds)
 
 -- the 0 of a page's sweep in a cell
 pub record ZeroAt (sizes : Sizes) (Q : Entry → Type 0) (p d : ℕ) (ts : List Touch) : Type 0 where
@@ -86,9 +82,6 @@ find_zero sizes Q p d [] calls h tied holds = absurd h
 find_zero sizes Q p d (Stored x v ∷ before) calls (inl h) tied holds =
     record { late = []; value = v; before = before; calls = calls; all = ap (λ (z : ℕ). Stored z v ∷ before) h.0; sweep = h.1; tied = tied; holds = holds }
 find_zero sizes Q p d (Stored x v ∷ before) calls (inr h) tied holds = push_zero sizes Q p d (Stored x v) before (find_zero sizes Q p d before calls h tied holds)
-find_zero sizes Q p d (Loaded x v ∷ before) calls h tied holds = push_zero sizes Q p d (Loaded x v) before (find_zero sizes Q p d before calls h tied holds)
-find_zero sizes Q p d (Changed x f v ∷ before) calls h tied holds = push_zero sizes Q p d (Changed x f v) before (find_zero sizes Q p d before calls h tied holds)
 find_zero sizes Q p d (Called met left ∷ before) [] h tied holds = absurd h
 find_zero sizes Q p d (Called met left ∷ before) (call ∷ calls) h tied holds = push_zero sizes Q p d (Called met left) before (find_zero sizes Q p d before calls h tied.2 holds.1)
-find_zero sizes Q p d (Looked w x ∷ before) calls h tied holds = push_zero sizes Q p d (Looked w x) before (find_zero sizes Q p d before calls h tied holds)
-find_zero sizes Q p d (Met m x ∷ before) calls h tied holds = push_zero sizes Q p d (Met m x) before (find_zero sizes Q p d before calls h tied holds)
+find_zero sizes Q p d (t ∷ before) calls h tied holds = push_zero sizes Q p d t before (find_zero sizes Q p d before calls h tied holds)

@@ -10,7 +10,7 @@ use Rattle.hl_history.specs.declared.view.Entry.{Entry}
 use Rattle.hl_history.specs.Lists.{left_by}
 use Rattle.hl_words.specs.declared.view.Extent.{Extent}
 use Rattle.hl_words.specs.declared.view.Touch.{Touch}
-use Rattle.hl_words.specs.declared.view.Touch.TheVariants.{Stored, Loaded, Changed, Called, Looked, Met}
+use Rattle.hl_words.specs.declared.view.Touch.TheVariants.{Called}
 use Rattle.hl_words.specs.declared.view.RiderView.{RiderView}
 use Rattle.hl_words.specs.Past.{HasNoCalls}
 use Rattle.hl_words.specs.Rule.{TouchBy, touches_of}
@@ -52,11 +52,7 @@ writes_both (_ ∷ xs) ys older = writes_both xs ys older
 pub next_call : (ts : List Touch) (e : Entry) (older : List Entry) → AreTied ts (e ∷ older) → (front : List Touch) × (met left : Extent) × (rest : List Touch) × (ts ≡ front ++ Called met left ∷ rest) × (left.steps ≡ length (left_by e)) × (met.steps ≡ length e.before)
 next_call [] e older h = absurd h
 next_call (Called met left ∷ before) e older h = ([], met, left, before, refl, h.1 ∙ sym (length-append e.before e.steps), h.0)
-next_call (Stored d v ∷ before) e older h = let n = next_call before e older h in (Stored d v ∷ n.0, n.1, n.2, n.3, ap (λ (l : List Touch). Stored d v ∷ l) n.4, n.5, n.6)
-next_call (Loaded d v ∷ before) e older h = let n = next_call before e older h in (Loaded d v ∷ n.0, n.1, n.2, n.3, ap (λ (l : List Touch). Loaded d v ∷ l) n.4, n.5, n.6)
-next_call (Changed d f v ∷ before) e older h = let n = next_call before e older h in (Changed d f v ∷ n.0, n.1, n.2, n.3, ap (λ (l : List Touch). Changed d f v ∷ l) n.4, n.5, n.6)
-next_call (Looked w x ∷ before) e older h = let n = next_call before e older h in (Looked w x ∷ n.0, n.1, n.2, n.3, ap (λ (l : List Touch). Looked w x ∷ l) n.4, n.5, n.6)
-next_call (Met m x ∷ before) e older h = let n = next_call before e older h in (Met m x ∷ n.0, n.1, n.2, n.3, ap (λ (l : List Touch). Met m x ∷ l) n.4, n.5, n.6)
+next_call (t ∷ before) e older h = let n = next_call before e older h in (t ∷ n.0, n.1, n.2, n.3, ap (λ (l : List Touch). t ∷ l) n.4, n.5, n.6)
 
 -- What stands before no call that met more than n steps: no call there met more
 pub early : (riders : List RiderView) (before : List TouchBy) (n j : ℕ) (q : RiderView) (xs ys : List Touch) → HasNoCalls riders n before → slice_get riders j ≡ Some q → q.touches ≡ xs ++ ys → length ys ≡ length (touches_of j before)
@@ -73,13 +69,9 @@ early riders before n j q xs ys calls at all long newer met left rest is =
 pub early_calls : (n : ℕ) (ts : List Touch) (calls : List Entry) → ((newer : List Touch) (met left : Extent) (rest : List Touch) → ts ≡ newer ++ Called met left ∷ rest → met.steps ≤ n) → AreTied ts calls → Every (λ (e : Entry). length e.before ≤ n) calls
 early_calls n [] [] h tied = tt
 early_calls n [] (call ∷ calls) h tied = absurd tied
-early_calls n (Stored d v ∷ ts) calls h tied = early_calls n ts calls (λ f m l r e. h (Stored d v ∷ f) m l r (ap (λ (x : List Touch). Stored d v ∷ x) e)) tied
-early_calls n (Loaded d v ∷ ts) calls h tied = early_calls n ts calls (λ f m l r e. h (Loaded d v ∷ f) m l r (ap (λ (x : List Touch). Loaded d v ∷ x) e)) tied
-early_calls n (Changed d o v ∷ ts) calls h tied = early_calls n ts calls (λ f m l r e. h (Changed d o v ∷ f) m l r (ap (λ (x : List Touch). Changed d o v ∷ x) e)) tied
 early_calls n (Called met left ∷ ts) [] h tied = absurd tied
 early_calls n (Called met left ∷ ts) (call ∷ calls) h tied = (
   omega (arith, h [] met left ts refl, tied.0),
   early_calls n ts calls (λ f m l r e. h (Called met left ∷ f) m l r (ap (λ (x : List Touch). Called met left ∷ x) e)) tied.2,
 )
-early_calls n (Looked w x ∷ ts) calls h tied = early_calls n ts calls (λ f m l r e. h (Looked w x ∷ f) m l r (ap (λ (y : List Touch). Looked w x ∷ y) e)) tied
-early_calls n (Met m x ∷ ts) calls h tied = early_calls n ts calls (λ f c l r e. h (Met m x ∷ f) c l r (ap (λ (y : List Touch). Met m x ∷ y) e)) tied
+early_calls n (t ∷ ts) calls h tied = early_calls n ts calls (λ f m l r e. h (t ∷ f) m l r (ap (λ (x : List Touch). t ∷ x) e)) tied

@@ -9,7 +9,7 @@ use Rattle.hl_model.specs.Sizes.{Sizes}
 use Rattle.hl_history.specs.declared.view.Entry.{Entry}
 use Rattle.hl_history.specs.Lists.{left_by}
 use Rattle.hl_words.specs.declared.view.Touch.{Touch}
-use Rattle.hl_words.specs.declared.view.Touch.TheVariants.{Stored, Loaded, Changed, Called, Looked, Met}
+use Rattle.hl_words.specs.declared.view.Touch.TheVariants.{Stored, Loaded, Changed, Called}
 use Rattle.hl_words.specs.States.{RiderState}
 use Rattle.hl_keeper.specs.Passes.{cell_at}
 use Rattle.hl_keeper.specs.Pages.{first_cell}
@@ -51,27 +51,22 @@ AreEntered sizes (Stored d v ∷ before) calls waiting =
     ((w : Step) × (older : List Step) × (waiting ≡ w ∷ older) × IsWriteOf sizes d v calls w
     × AreEntered sizes before calls older)
     ⊎ (IsSweep sizes d v calls × AreEntered sizes before calls waiting)
-AreEntered sizes (Loaded d v ∷ before) calls waiting = AreEntered sizes before calls waiting
 AreEntered sizes (Changed d found v ∷ before) calls waiting =
     (w : Step) × (older : List Step) × (waiting ≡ w ∷ older) × IsWriteOf sizes d v calls w
     × AreEntered sizes before calls older
 AreEntered sizes (Called met left ∷ before) [] waiting = ⊥
 AreEntered sizes (Called met left ∷ before) (call ∷ calls) waiting =
     AreEntered sizes before calls (waiting ++ newest_writes call.steps [])
-AreEntered sizes (Looked which x ∷ before) calls waiting = AreEntered sizes before calls waiting
-AreEntered sizes (Met name count ∷ before) calls waiting = AreEntered sizes before calls waiting
+AreEntered sizes (_ ∷ before) calls waiting = AreEntered sizes before calls waiting
 
 -- the 0 of the sweep of a page into the cell is among these touches
 abbrev pub HasZero : Sizes → ℕ → ℕ → List Touch → List Entry → Type 0
 HasZero sizes p d [] calls = ⊥
 HasZero sizes p d (Stored x v ∷ before) calls =
     ((x ≡ d) × IsSweepOf sizes p d v calls) ⊎ HasZero sizes p d before calls
-HasZero sizes p d (Loaded x v ∷ before) calls = HasZero sizes p d before calls
-HasZero sizes p d (Changed x found v ∷ before) calls = HasZero sizes p d before calls
 HasZero sizes p d (Called met left ∷ before) [] = ⊥
 HasZero sizes p d (Called met left ∷ before) (call ∷ calls) = HasZero sizes p d before calls
-HasZero sizes p d (Looked which x ∷ before) calls = HasZero sizes p d before calls
-HasZero sizes p d (Met name count ∷ before) calls = HasZero sizes p d before calls
+HasZero sizes p d (_ ∷ before) calls = HasZero sizes p d before calls
 
 -- so it is with each cell of the page
 abbrev pub IsSwept : Sizes → ℕ → List Touch → List Entry → Type 0
@@ -81,14 +76,10 @@ IsSwept sizes p touches calls = (d : ℕ) → first_cell sizes p ≤ d → d < f
 -- each of these calls that freed a page was made after the whole sweep of it
 abbrev pub FreesSwept : Sizes → List Touch → List Entry → Type 0
 FreesSwept sizes [] calls = Unit {0}
-FreesSwept sizes (Stored d v ∷ before) calls = FreesSwept sizes before calls
-FreesSwept sizes (Loaded d v ∷ before) calls = FreesSwept sizes before calls
-FreesSwept sizes (Changed d found v ∷ before) calls = FreesSwept sizes before calls
 FreesSwept sizes (Called met left ∷ before) [] = ⊥
 FreesSwept sizes (Called met left ∷ before) (call ∷ calls) =
     ((p : ℕ) → call.steps ≡ CleanDone p ∷ [] → IsSwept sizes p before calls) × FreesSwept sizes before calls
-FreesSwept sizes (Looked which x ∷ before) calls = FreesSwept sizes before calls
-FreesSwept sizes (Met name count ∷ before) calls = FreesSwept sizes before calls
+FreesSwept sizes (_ ∷ before) calls = FreesSwept sizes before calls
 
 -- these touches load only cells that there are
 abbrev pub LoadsWithin : Sizes → List Touch → Type 0

@@ -7,5 +7,4 @@ pub mod Sealed
 pub mod Sweeps
 pub mod Entered
 pub mod Kept
-pub mod Sums
 pub mod Calls

@@ -7,7 +7,7 @@ use Rattle.hl_model.specs.Sizes.{Sizes}
 use Rattle.hl_history.specs.declared.view.Entry.{Entry}
 use Rattle.hl_history.specs.Lists.{entry}
 use Rattle.hl_words.specs.declared.view.Touch.{Touch}
-use Rattle.hl_words.specs.declared.view.Touch.TheVariants.{Stored, Loaded, Changed, Called, Looked, Met}
+use Rattle.hl_words.specs.declared.view.Touch.TheVariants.{Stored, Changed, Called}
 use Rattle.hl_words.specs.States.{RiderState}
 use Rattle.hl_keeper.specs.Pages.{first_cell}
 
@@ -22,12 +22,10 @@ IsSweep sizes d v calls = (v ≡ 0) × (p : ℕ) × (list : List Step) × (older
 abbrev pub AreSweeps : Sizes → List Touch → List Entry → Type 0
 AreSweeps sizes [] calls = Unit {0}
 AreSweeps sizes (Stored d v ∷ before) calls = IsSweep sizes d v calls × AreSweeps sizes before calls
-AreSweeps sizes (Loaded d v ∷ before) calls = AreSweeps sizes before calls
 AreSweeps sizes (Changed d found v ∷ before) calls = ⊥
 AreSweeps sizes (Called met left ∷ before) [] = ⊥
 AreSweeps sizes (Called met left ∷ before) (call ∷ calls) = AreSweeps sizes before calls
-AreSweeps sizes (Looked which x ∷ before) calls = AreSweeps sizes before calls
-AreSweeps sizes (Met name count ∷ before) calls = AreSweeps sizes before calls
+AreSweeps sizes (_ ∷ before) calls = AreSweeps sizes before calls
 
 -- the rider stores only to sweep pages
 abbrev pub StoresSweep : Sizes → RiderState → Type 0

@@ -5,7 +5,6 @@ ghost use Rattle.hl_images.specs.Flushes.{LaterStates, TakenIsCopied, AnsweredIs
 ghost use Rattle.hl_images.specs.Kept.{RidersStayEntered, PassesStayEntered};
 ghost use Rattle.hl_images.specs.Pairs.{FlushedByTwoStays, FlushedByTwoIsImaged};
 ghost use Rattle.hl_images.specs.Sealed.{PendingStaysAbove, LaterStaysAbove};
-ghost use Rattle.hl_images.specs.Sums.{ImagesAreSums};
 
 use hl_action::Task;
 
@@ -57,12 +56,6 @@ pub fn pending_stays_above()
 /// No write that is accepted once a page is sealed lies in it.
 pub fn later_stays_above()
     ensures { LaterStaysAbove }
-{}
-
-/// If each rider only added at its address, or only sweeps pages, a word of an image of the first page of a
-/// frame is the sum of all that was added, modulo 2^64.
-pub fn images_are_sums<F: Task>()
-    ensures { ImagesAreSums F }
 {}
 
 /// Each store of a rider without a pass stays a write that its calls entered, or a 0 of its sweeps, by all

@@ -18,9 +18,7 @@
 //! What the words are: each store of a rider is a write that its calls entered, one that still waits in its
 //! pass, or a 0 of its sweep of a page (`StoresEnter`), which each call of a domain keeps
 //! (`riders_stay_entered`, `passes_stay_entered`). By that a log is one memory by address, of which
-//! `hl_memory` tells, and what each word of an image is. Here only so much is said: on the first page of each
-//! frame a word is the sum of what riders added, if the others are known to sweep (`images_are_sums`,
-//! `StoresSweep`). All are in [`laws`].
+//! `hl_memory` tells, and what each word of an image is. All are in [`laws`].
 #![tactic(auto)]
 
 mod copying;

@@ -1,5 +1,5 @@
 -- Acts and their touches: what one is tells of the other.
-use Rattle.std.proofs.Common.{◌≡◌, ℕ, suc, ◌==◌, ◌⊎◌, Bool, true, false, List, [], ◌∷◌, ◌++◌, length, map, Some, None, refl, ap, sym, ◌∙◌, inl, inr, ⊎_elim, arith, length-append}
+use Rattle.std.proofs.Common.{◌≡◌, ℕ, suc, ◌==◌, ◌⊎◌, Bool, true, false, List, [], ◌∷◌, ◌++◌, length, map, Some, None, refl, ap, sym, ◌∙◌, inl, inr, ⊎_elim, length-append}
 use Rattle.std.specs.Prelude.{if◌then◌else◌}
 use Rattle.std.specs.List.{AllByRecursion as Every}
 use Rattle.std.proofs.lemmas.Bool.{eq-eqb, eqb-true, ne_eqb}
@@ -8,12 +8,11 @@ use Rattle.hl_history.specs.declared.view.Entry.{Entry}
 use Rattle.hl_history.specs.Lists.{left_by}
 use Rattle.hl_words.specs.declared.view.Extent.{Extent}
 use Rattle.hl_words.specs.declared.view.Touch.{Touch}
-use Rattle.hl_words.specs.declared.view.Touch.TheVariants.{Stored, Loaded, Changed, Called, Looked, Met}
+use Rattle.hl_words.specs.declared.view.Touch.TheVariants.{Stored, Changed, Called, Looked}
 use Rattle.hl_words.specs.Rule.{last_store, left_by as leaves_by, TouchBy, by_rider, held, touches_of}
 use Rattle.hl_words.specs.States.{AreTied}
 use Rattle.hl_words.proofs.Lawful.{Puts, Passes, puts_or_passes, last_either}
 use Rattle.hl_words.proofs.Orders.{own_more}
-use Rattle.hl_words.proofs.PastProofs.{compared, touches_both}
 use Rattle.hl_keeper.specs.Passes.{cell_at}
 use Rattle.hl_memory.specs.Acts.{in_cell, in_cells, IsPut}
 
@@ -47,25 +46,17 @@ own_cells sizes i xs = mapped_own (in_cell sizes) i xs
 pub tied_acts : (sizes : Sizes) (acts : List Touch) (calls : List Entry) → AreTied (map (in_cell sizes) acts) calls → AreTied acts calls
 tied_acts sizes [] [] h = tt
 tied_acts sizes [] (call ∷ calls) h = absurd h
-tied_acts sizes (Stored d v ∷ acts) calls h = tied_acts sizes acts calls h
-tied_acts sizes (Loaded d v ∷ acts) calls h = tied_acts sizes acts calls h
-tied_acts sizes (Changed d f v ∷ acts) calls h = tied_acts sizes acts calls h
 tied_acts sizes (Called met left ∷ acts) [] h = absurd h
 tied_acts sizes (Called met left ∷ acts) (call ∷ calls) h = (h.0, h.1, tied_acts sizes acts calls h.2)
-tied_acts sizes (Looked w x ∷ acts) calls h = tied_acts sizes acts calls h
-tied_acts sizes (Met m x ∷ acts) calls h = tied_acts sizes acts calls h
+tied_acts sizes (_ ∷ acts) calls h = tied_acts sizes acts calls h
 
 -- the record of a call among touches
 pub call_at : (P : Entry → Type 0) (later : List Touch) (met left : Extent) (past : List Touch) (calls : List Entry) → AreTied (later ++ Called met left ∷ past) calls → Every P calls → (e : Entry) × (met.steps ≡ length e.before) × (left.steps ≡ length (left_by e)) × P e
 call_at P [] met left past [] h e = absurd h
 call_at P [] met left past (call ∷ calls) h e = (call, h.0, h.1 ∙ sym (length-append call.before call.steps), e.0)
-call_at P (Stored d v ∷ later) met left past calls h e = call_at P later met left past calls h e
-call_at P (Loaded d v ∷ later) met left past calls h e = call_at P later met left past calls h e
-call_at P (Changed d f v ∷ later) met left past calls h e = call_at P later met left past calls h e
 call_at P (Called m l ∷ later) met left past [] h e = absurd h
 call_at P (Called m l ∷ later) met left past (call ∷ calls) h e = call_at P later met left past calls h.2 e.1
-call_at P (Looked w x ∷ later) met left past calls h e = call_at P later met left past calls h e
-call_at P (Met m x ∷ later) met left past calls h e = call_at P later met left past calls h e
+call_at P (_ ∷ later) met left past calls h e = call_at P later met left past calls h e
 
 -- an act that stores at an address leaves its value there, and another leaves what was there
 put_leaves : (a v w : ℕ) (t : Touch) → IsPut t a v → leaves_by a t w ≡ v
@@ -87,10 +78,7 @@ put_is a (Changed d f v) p = by (d == a) refl (p.last [])
     by : (b : Bool) → (d == a) ≡ b → (if b then Some v else None) ≡ Some p.value → (w : ℕ) × IsPut (Changed d f v) a w
     by true test e = (v, inr (f, ap (λ (z : ℕ). Changed z f v) (eqb-true d a test)))
     by false test e = absurd (cc e)
-put_is a (Loaded d v) p = let no : None ≡ Some p.value = p.last [] in absurd (cc no)
-put_is a (Called m n) p = let no : None ≡ Some p.value = p.last [] in absurd (cc no)
-put_is a (Looked w x) p = let no : None ≡ Some p.value = p.last [] in absurd (cc no)
-put_is a (Met m x) p = let no : None ≡ Some p.value = p.last [] in absurd (cc no)
+put_is a _ p = let no : None ≡ Some p.value = p.last [] in absurd (cc no)
 
 -- the newest store at an address
 pub record HasAt (a : ℕ) (history : List TouchBy) : Type 0 where
@@ -209,21 +197,5 @@ newest_put sizes a (t ∷ history) = by t.touch refl (newest_put sizes a history
         store d v (inl e) (λ w. ap (λ (u : Touch). leaves_by (cell_at sizes a) (in_cell sizes u) w) e) (λ w. ap (λ (u : Touch). leaves_by a u w) e) (λ l. ap (λ (u : Touch). last_store (cell_at sizes a) (in_cell sizes u ∷ l)) e) sooner (cell_at sizes d == (cell_at sizes a)) refl
     by (Changed d f v) e sooner =
         store d v (inr (f, e)) (λ w. ap (λ (u : Touch). leaves_by (cell_at sizes a) (in_cell sizes u) w) e) (λ w. ap (λ (u : Touch). leaves_by a u w) e) (λ l. ap (λ (u : Touch). last_store (cell_at sizes a) (in_cell sizes u ∷ l)) e) sooner (cell_at sizes d == (cell_at sizes a)) refl
-    by (Loaded d v) e sooner = still (λ w. ap (λ (u : Touch). leaves_by (cell_at sizes a) (in_cell sizes u) w) e) (λ w. ap (λ (u : Touch). leaves_by a u w) e) (λ l. ap (λ (u : Touch). last_store (cell_at sizes a) (in_cell sizes u ∷ l)) e) sooner
-    by (Called m n) e sooner = still (λ w. ap (λ (u : Touch). leaves_by (cell_at sizes a) (in_cell sizes u) w) e) (λ w. ap (λ (u : Touch). leaves_by a u w) e) (λ l. ap (λ (u : Touch). last_store (cell_at sizes a) (in_cell sizes u ∷ l)) e) sooner
     by (Looked w x) e sooner = still (λ y. ap (λ (u : Touch). leaves_by (cell_at sizes a) (in_cell sizes u) y) e) (λ y. ap (λ (u : Touch). leaves_by a u y) e) (λ l. ap (λ (u : Touch). last_store (cell_at sizes a) (in_cell sizes u ∷ l)) e) sooner
-    by (Met m x) e sooner = still (λ w. ap (λ (u : Touch). leaves_by (cell_at sizes a) (in_cell sizes u) w) e) (λ w. ap (λ (u : Touch). leaves_by a u w) e) (λ l. ap (λ (u : Touch). last_store (cell_at sizes a) (in_cell sizes u ∷ l)) e) sooner
-
--- one touch of a rider has one place in an order
-pub one_place : (i : ℕ) (t : Touch) (f1 b1 f2 b2 : List TouchBy) → f1 ++ by_rider i t ∷ b1 ≡ f2 ++ by_rider i t ∷ b2 → touches_of i b1 ≡ touches_of i b2 → b1 ≡ b2
-one_place i t f1 b1 f2 b2 e own =
-    ⊎_elim
-    (λ (h : (mid : List TouchBy) × (b1 ≡ mid ++ by_rider i t ∷ b2)). absurd (longer b1 b2 h.0 h.1 own))
-    (λ (o : ((by_rider i t ≡ by_rider i t) × (b1 ≡ b2)) ⊎ ((mid : List TouchBy) × (b2 ≡ mid ++ by_rider i t ∷ b1))).
-    ⊎_elim (λ (same : (by_rider i t ≡ by_rider i t) × (b1 ≡ b2)). same.1) (λ (h : (mid : List TouchBy) × (b2 ≡ mid ++ by_rider i t ∷ b1)). absurd (longer b2 b1 h.0 h.1 (sym own))) o)
-    (compared f1 (by_rider i t) b1 f2 (by_rider i t) b2 e)
-  where
-    longer : (x y mid : List TouchBy) → x ≡ mid ++ by_rider i t ∷ y → touches_of i x ≡ touches_of i y → ⊥
-    longer x y mid is same =
-        let parts : touches_of i x ≡ touches_of i mid ++ t ∷ touches_of i y = ap (touches_of i) is ∙ touches_both i mid (by_rider i t ∷ y) ∙ ap (λ (l : List Touch). touches_of i mid ++ l) (own_more i t y) in
-        omega (arith, ap length parts, ap length same, length-append (touches_of i mid) (t ∷ touches_of i y))
+    by _ e sooner = still (λ w. ap (λ (u : Touch). leaves_by (cell_at sizes a) (in_cell sizes u) w) e) (λ w. ap (λ (u : Touch). leaves_by a u w) e) (λ l. ap (λ (u : Touch). last_store (cell_at sizes a) (in_cell sizes u ∷ l)) e) sooner

@@ -17,19 +17,15 @@ StoresAt a _ = ⊥
 
 -- an act does, or it doesn't
 pub stores_or_not : (a : ℕ) (x : Act) → StoresAt a x ⊎ (StoresAt a x → ⊥)
-stores_or_not a (Placed b n) = inr (λ e. e)
 stores_or_not a (Stored b v) = cases_eq b a
-stores_or_not a (Loaded b v) = inr (λ e. e)
 stores_or_not a (Changed b found v) = cases_eq b a
-stores_or_not a (Met n) = inr (λ e. e)
+stores_or_not a _ = inr (λ e. e)
 
 -- an act that doesn't leaves what was there
 pub passes : (a w : ℕ) (x : Act) → (StoresAt a x → ⊥) → leaves_at a x w ≡ w
-passes a w (Placed b n) none = refl
 passes a w (Stored b v) none = ap (λ (c : Bool). if c then v else w) (ne_eqb b a none)
-passes a w (Loaded b v) none = refl
 passes a w (Changed b found v) none = ap (λ (c : Bool). if c then v else w) (ne_eqb b a none)
-passes a w (Met n) none = refl
+passes a w _ none = refl
 
 -- an act that leaves this there, if it stores there
 abbrev pub LeavesOnly : ℕ → ℕ → Act → Type 0
@@ -39,11 +35,9 @@ LeavesOnly a v _ = Unit {0}
 
 -- if it does, that is what the address has then
 pub leaves : (a v w : ℕ) (x : Act) → StoresAt a x → LeavesOnly a v x → leaves_at a x w ≡ v
-leaves a v w (Placed b n) at only = absurd at
 leaves a v w (Stored b u) at only = ap (λ (c : Bool). if c then u else w) (eq-eqb b a at) ∙ only at
-leaves a v w (Loaded b u) at only = absurd at
 leaves a v w (Changed b found u) at only = ap (λ (c : Bool). if c then u else w) (eq-eqb b a at) ∙ only at
-leaves a v w (Met n) at only = absurd at
+leaves a v w _ at only = absurd at
 
 -- the act stands in the list
 abbrev pub Has : Act → List Act → Type 0
@@ -70,33 +64,27 @@ every_has P x (y ∷ xs) h (inr has) = every_has P x xs h.1 has
 -- what is among the changes is among the acts
 pub has_changes : (x : Act) (xs : List Act) → Has x (changes xs) → Has x xs
 has_changes x [] h = h
-has_changes x (Placed a n ∷ xs) (inl e) = inl e
 has_changes x (Placed a n ∷ xs) (inr h) = inr (has_changes x xs h)
-has_changes x (Stored a v ∷ xs) (inl e) = inl e
 has_changes x (Stored a v ∷ xs) (inr h) = inr (has_changes x xs h)
 has_changes x (Loaded a v ∷ xs) h = inr (has_changes x xs h)
-has_changes x (Changed a found v ∷ xs) (inl e) = inl e
 has_changes x (Changed a found v ∷ xs) (inr h) = inr (has_changes x xs h)
 has_changes x (Met n ∷ xs) h = inr (has_changes x xs h)
+has_changes x (_ ∷ xs) (inl e) = inl e
 
 module _ (P : Act → Type 0) where
   -- what holds of loads and calls, and of each change, holds of each act
   pub every_changes : ((a v : ℕ) → P (Loaded a v)) → ((n : ℕ) → P (Met n)) → (xs : List Act) → Every P (changes xs) → Every P xs
   every_changes loads calls [] h = tt
-  every_changes loads calls (Placed a n ∷ xs) h = (h.0, every_changes loads calls xs h.1)
-  every_changes loads calls (Stored a v ∷ xs) h = (h.0, every_changes loads calls xs h.1)
   every_changes loads calls (Loaded a v ∷ xs) h = (loads a v, every_changes loads calls xs h)
-  every_changes loads calls (Changed a found v ∷ xs) h = (h.0, every_changes loads calls xs h.1)
   every_changes loads calls (Met n ∷ xs) h = (calls n, every_changes loads calls xs h)
+  every_changes loads calls (_ ∷ xs) h = (h.0, every_changes loads calls xs h.1)
 
   -- what holds of each act holds of each change
   pub every_changed : (xs : List Act) → Every P xs → Every P (changes xs)
   every_changed [] h = tt
-  every_changed (Placed a n ∷ xs) h = (h.0, every_changed xs h.1)
-  every_changed (Stored a v ∷ xs) h = (h.0, every_changed xs h.1)
   every_changed (Loaded a v ∷ xs) h = every_changed xs h.1
-  every_changed (Changed a found v ∷ xs) h = (h.0, every_changed xs h.1)
   every_changed (Met n ∷ xs) h = every_changed xs h.1
+  every_changed (_ ∷ xs) h = (h.0, every_changed xs h.1)
 
 -- what stands in the first elements stands in the list
 pub taken : {X : Type 0} (n : ℕ) (xs : List X) (q : ℕ) (x : X) → slice_get (take n xs) q ≡ Some x → (q < n) × (slice_get xs q ≡ Some x)
@@ -181,10 +169,9 @@ Ordered (x ∷ before) = Behind before x × Ordered before
 pub ordered_changes : (xs : List Act) → Ordered xs → Ordered (changes xs)
 ordered_changes [] h = tt
 ordered_changes (Placed a n ∷ xs) h = (every_changed (EndsBelow a) xs h.0, ordered_changes xs h.1)
-ordered_changes (Stored a v ∷ xs) h = (tt, ordered_changes xs h.1)
 ordered_changes (Loaded a v ∷ xs) h = ordered_changes xs h.1
-ordered_changes (Changed a found v ∷ xs) h = (tt, ordered_changes xs h.1)
 ordered_changes (Met n ∷ xs) h = ordered_changes xs h.1
+ordered_changes (_ ∷ xs) h = (tt, ordered_changes xs h.1)
 
 -- the end of such a list is one
 ordered_back : (xs ys : List Act) → Ordered (xs ++ ys) → Ordered ys
@@ -231,10 +218,9 @@ module _ (a v b : ℕ) where
   pub preceded_changes : (xs : List Act) → Preceded (changes xs) → Preceded xs
   preceded_changes [] h = tt
   preceded_changes (Placed c n ∷ xs) h = ((λ at. absurd at), preceded_changes xs h.1)
-  preceded_changes (Stored c w ∷ xs) h = ((λ at. has_changes (Stored a v) (Stored c w ∷ xs) (h.0 at)), preceded_changes xs h.1)
   preceded_changes (Loaded c w ∷ xs) h = ((λ at. absurd at), preceded_changes xs h)
-  preceded_changes (Changed c found w ∷ xs) h = ((λ at. has_changes (Stored a v) (Changed c found w ∷ xs) (h.0 at)), preceded_changes xs h.1)
   preceded_changes (Met n ∷ xs) h = ((λ at. absurd at), preceded_changes xs h)
+  preceded_changes (t ∷ xs) h = ((λ at. has_changes (Stored a v) (t ∷ xs) (h.0 at)), preceded_changes xs h.1)
 
   -- and in all that is stored after the store at the first
   preceded_upon : (c : ℕ) (ws : List ℕ) (before : List Act) → Has (Stored a v) before → Preceded before → Preceded (stores_from c ws before)

@@ -10,11 +10,11 @@ use Rattle.hl_model.specs.Sizes.{Sizes}
 use Rattle.hl_history.specs.declared.view.Entry.{Entry}
 use Rattle.hl_history.specs.Lists.{entry, Begins, left_by}
 use Rattle.hl_words.specs.declared.view.Touch.{Touch}
-use Rattle.hl_words.specs.declared.view.Touch.TheVariants.{Stored as StoredIn, Loaded as LoadedFrom, Changed as ChangedIn, Called, Looked, Met as WasTold}
+use Rattle.hl_words.specs.declared.view.Touch.TheVariants.{Stored as StoredIn, Loaded as LoadedFrom, Changed as ChangedIn, Called}
 use Rattle.hl_words.proofs.Cut.{every_append}
 use Rattle.hl_images.specs.Entered.{newest_writes}
 use Rattle.hl_memory.specs.declared.act.Act.{Act}
-use Rattle.hl_memory.specs.declared.act.Act.TheVariants.{Placed, Stored, Loaded, Changed, Met}
+use Rattle.hl_memory.specs.declared.act.Act.TheVariants.{Stored, Changed, Met}
 use Rattle.hl_memory.specs.Acts.{is_of_pages, IsWriteAt, AreActs}
 use Rattle.hl_memory.specs.OneTrace.{ActBy, acts_by, leaves_at, left_at}
 use Rattle.hl_memory.specs.Traces.{placed_by, places, acts_of}
@@ -23,19 +23,15 @@ use Rattle.hl_memory.proofs.ThreadLaws.{every_thread}
 
 -- if the act stores, it is below an address
 abbrev pub PutsBelow : ℕ → Act → Type 0
-PutsBelow n (Placed a k) = Unit {0}
 PutsBelow n (Stored a v) = a < n
-PutsBelow n (Loaded a v) = Unit {0}
 PutsBelow n (Changed a f v) = a < n
-PutsBelow n (Met k) = Unit {0}
+PutsBelow n _ = Unit {0}
 
 -- at that address or beyond nothing is left
 leaves_low : (n a w : ℕ) (x : Act) → n ≤ a → PutsBelow n x → w ≡ 0 → leaves_at a x w ≡ 0
-leaves_low n a w (Placed b k) far h none = none
 leaves_low n a w (Stored b v) far h none = ap (λ (c : Bool). if c then v else w) (ne_eqb b a (λ e. absurd (omega (arith, e, h, far)))) ∙ none
-leaves_low n a w (Loaded b v) far h none = none
 leaves_low n a w (Changed b f v) far h none = ap (λ (c : Bool). if c then v else w) (ne_eqb b a (λ e. absurd (omega (arith, e, h, far)))) ∙ none
-leaves_low n a w (Met k) far h none = none
+leaves_low n a w _ far h none = none
 
 leaves_beyond : (n a : ℕ) (all : List ActBy) → n ≤ a → Every (λ (t : ActBy). PutsBelow n t.act) all → left_at a all ≡ 0
 leaves_beyond n a [] far below = refl
@@ -84,8 +80,7 @@ module _ (sizes : Sizes) (page_some : 0 < sizes.page_size) (whole : List Step) w
       every_append P (places sizes call.before call.steps ++ Met left.steps ∷ []) (acts_of sizes ts calls)
       (every_append P (places sizes call.before call.steps) (Met left.steps ∷ []) (places_below call.before call.steps) (tt, tt))
       (puts_below ts calls (waiting ++ newest_writes call.steps []) h plain.1)
-  puts_below (Looked u x ∷ ts) calls waiting h plain = puts_below ts calls waiting h plain
-  puts_below (WasTold m n ∷ ts) calls waiting h plain = puts_below ts calls waiting h plain
+  puts_below (_ ∷ ts) calls waiting h plain = puts_below ts calls waiting h plain
 
   -- so nothing is left at the tail or beyond where all threads are such riders
   pub nothing_beyond : (a : ℕ) (all : List ActBy) → tail sizes whole ≤ a → ((i : ℕ) → Every (PutsBelow (tail sizes whole)) (acts_by i all)) → left_at a all ≡ 0

@@ -8,7 +8,7 @@ use Rattle.std.proofs.lemmas.List.Sums.{sum_by-cons}
 use Rattle.hl_words.proofs.Cut.{every_weaker}
 use Rattle.hl_words.proofs.Orders.{there}
 use Rattle.hl_memory.specs.declared.act.Act.{Act}
-use Rattle.hl_memory.specs.declared.act.Act.TheVariants.{Placed, Stored, Loaded, Changed, Met}
+use Rattle.hl_memory.specs.declared.act.Act.TheVariants.{Stored, Changed}
 use Rattle.hl_memory.specs.OneTrace.{ActBy, acts_by, leaves_at, left_at, Follows, AreOne}
 use Rattle.hl_memory.specs.Counters.{AddsAt, CountersAreSums}
 use Rattle.hl_memory.proofs.ThreadLaws.{own_act, other_act}
@@ -69,10 +69,7 @@ added a (t ∷ before) totals one theirs adds =
             sooner s own ∙ ap (λ (n : ℕ). n % 2 ^ 64) same
 
         at_act : (x : Act) → Follows before x → AddsAt a s (x ∷ acts_by t.thread before) → leaves_at a x (left_at a before) ≡ sum totals % 2 ^ 64
-        at_act (Placed b n) follows own = stays own
         at_act (Stored b v) follows own = ap (λ (c : Bool). if c then v else left_at a before) (ne_eqb b a own.0) ∙ stays own.1
-        at_act (Loaded b v) follows own = stays own
-        at_act (Met n) follows own = stays own
         at_act (Changed b found v) follows own =
             ⊎_elim
             (λ (o : (b ≢ a) × AddsAt a s (acts_by t.thread before)). ap (λ (c : Bool). if c then v else left_at a before) (ne_eqb b a o.0) ∙ stays o.1)
@@ -82,6 +79,7 @@ added a (t ∷ before) totals one theirs adds =
             ap (λ (c : Bool). if c then v else left_at a before) (eq-eqb b a o.0)
             ∙ one_add v found more (left_at a before) s rest (sum (set totals t.thread rest)) (sum totals) o.1.3 (follows ∙ ap (λ (k : ℕ). left_at k before) o.0) (sooner rest o.1.4) o.1.2 (sum_put totals t.thread s rest at))
             own
+        at_act _ follows own = stays own
 
 pub counters_are_sums : CountersAreSums
 counters_are_sums all a totals one theirs adds = added a all totals one theirs adds

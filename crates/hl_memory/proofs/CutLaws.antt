@@ -10,7 +10,7 @@ use Rattle.hl_history.specs.declared.view.Entry.{Entry}
 use Rattle.hl_history.specs.Lists.{left_by}
 use Rattle.hl_words.specs.declared.view.Extent.{Extent}
 use Rattle.hl_words.specs.declared.view.Touch.{Touch}
-use Rattle.hl_words.specs.declared.view.Touch.TheVariants.{Stored, Loaded, Changed, Called, Looked, Met}
+use Rattle.hl_words.specs.declared.view.Touch.TheVariants.{Stored, Changed, Called}
 use Rattle.hl_words.specs.States.{AreTied}
 use Rattle.hl_words.proofs.Cut.{every_append, every_back}
 use Rattle.hl_images.specs.Entered.{newest_writes}
@@ -92,8 +92,6 @@ module _ (sizes : Sizes) (a : ℕ) (all ys : List Touch) (calls_all : List Entry
       cut_acts (pre ++ Stored x v ∷ []) xs newer calls w.1 (longer pre xs (Stored x v) is) own (more_zeroed pre (Stored x v) zeroed (stored_apart calls_all a x v (write_elsewhere sizes a x v calls w.0 w.3 rest.0))) silent w.4 tied holds rest.1
   cut_acts pre (Stored x v ∷ xs) newer calls waiting is own zeroed silent (inr z) tied holds none =
       cut_acts (pre ++ Stored x v ∷ []) xs newer calls waiting (longer pre xs (Stored x v) is) own (more_zeroed pre (Stored x v) zeroed (stored_zero calls_all a x v z.0.0 (λ none. cleans sizes x v newer calls z.0 (subst NoneOfPages own none)))) silent z.1 tied holds none
-  cut_acts pre (Loaded x v ∷ xs) newer calls waiting is own zeroed silent h tied holds none =
-      cut_acts (pre ++ Loaded x v ∷ []) xs newer calls waiting (longer pre xs (Loaded x v) is) own (more_zeroed pre (Loaded x v) zeroed (other_zeroed calls_all a (Loaded x v) refl)) silent h tied holds none
   cut_acts pre (Changed x f v ∷ xs) newer calls waiting is own zeroed silent w tied holds none =
       let rest = subst (WritesNothing a) w.2 none in
       cut_acts (pre ++ Changed x f v ∷ []) xs newer calls w.1 (longer pre xs (Changed x f v) is) own (more_zeroed pre (Changed x f v) zeroed (changed_apart calls_all a x f v (write_elsewhere sizes a x v calls w.0 w.3 rest.0))) silent w.4 tied holds rest.1
@@ -103,7 +101,5 @@ module _ (sizes : Sizes) (a : ℕ) (all ys : List Touch) (calls_all : List Entry
       cut_acts (pre ++ Called met left ∷ []) xs (newer ++ call ∷ []) calls (waiting ++ newest_writes call.steps []) (longer pre xs (Called met left) is) (own ∙ sym (append_assoc newer (call ∷ []) calls))
       (more_zeroed pre (Called met left) zeroed (other_zeroed calls_all a (Called met left) refl)) (every_append (λ (e : Entry). WritesNothing a e.steps) newer (call ∷ []) silent (nothing, tt)) h tied.2 holds.1
       (every_append (λ (s : Step). written_at a s ≡ None) waiting (newest_writes call.steps []) none (newest_every (λ (s : Step). written_at a s ≡ None) call.steps [] nothing tt))
-  cut_acts pre (Looked w x ∷ xs) newer calls waiting is own zeroed silent h tied holds none =
-      cut_acts (pre ++ Looked w x ∷ []) xs newer calls waiting (longer pre xs (Looked w x) is) own (more_zeroed pre (Looked w x) zeroed (other_zeroed calls_all a (Looked w x) refl)) silent h tied holds none
-  cut_acts pre (Met m x ∷ xs) newer calls waiting is own zeroed silent h tied holds none =
-      cut_acts (pre ++ Met m x ∷ []) xs newer calls waiting (longer pre xs (Met m x) is) own (more_zeroed pre (Met m x) zeroed (other_zeroed calls_all a (Met m x) refl)) silent h tied holds none
+  cut_acts pre (t ∷ xs) newer calls waiting is own zeroed silent h tied holds none =
+      cut_acts (pre ++ t ∷ []) xs newer calls waiting (longer pre xs t is) own (more_zeroed pre t zeroed (other_zeroed calls_all a t refl)) silent h tied holds none

@@ -9,7 +9,7 @@ use Rattle.hl_history.specs.declared.view.Entry.{Entry}
 use Rattle.hl_history.specs.Lists.{Begins, left_by}
 use Rattle.hl_words.specs.declared.view.Extent.{Extent}
 use Rattle.hl_words.specs.declared.view.Touch.{Touch}
-use Rattle.hl_words.specs.declared.view.Touch.TheVariants.{Stored, Loaded, Changed, Called, Looked, Met}
+use Rattle.hl_words.specs.declared.view.Touch.TheVariants.{Stored, Changed, Called}
 use Rattle.hl_words.specs.States.{RiderState, AreTied}
 use Rattle.hl_words.proofs.Cut.{every_append, every_weaker}
 use Rattle.hl_images.specs.Entered.{IsOneCall, newest_writes}
@@ -66,7 +66,6 @@ module _ (sizes : Sizes) (all : List Touch) (t : Touch) (ys : List Touch) (P : S
   find_act pre (Stored x v ∷ xs) calls waiting is (inl w) tied holds origins =
       find_act (pre ++ Stored x v ∷ []) xs calls w.1 (further pre xs (Stored x v) is) w.4 tied holds (subst (Every (λ u. P u ⊎ IsEntering all t ys Q u)) w.2 origins).1
   find_act pre (Stored x v ∷ xs) calls waiting is (inr s) tied holds origins = find_act (pre ++ Stored x v ∷ []) xs calls waiting (further pre xs (Stored x v) is) s.1 tied holds origins
-  find_act pre (Loaded x v ∷ xs) calls waiting is h tied holds origins = find_act (pre ++ Loaded x v ∷ []) xs calls waiting (further pre xs (Loaded x v) is) h tied holds origins
   find_act pre (Changed x f v ∷ xs) calls waiting is w tied holds origins =
       find_act (pre ++ Changed x f v ∷ []) xs calls w.1 (further pre xs (Changed x f v) is) w.4 tied holds (subst (Every (λ u. P u ⊎ IsEntering all t ys Q u)) w.2 origins).1
   find_act pre (Called met left ∷ xs) [] waiting is h tied holds origins = absurd tied
@@ -90,8 +89,7 @@ module _ (sizes : Sizes) (all : List Touch) (t : Touch) (ys : List Touch) (P : S
       })) in
       find_act (pre ++ Called met left ∷ []) xs calls (waiting ++ newest_writes call.steps []) (further pre xs (Called met left) is) h tied.2 holds.1
       (every_append (λ u. P u ⊎ IsEntering all t ys Q u) waiting (newest_writes call.steps []) origins (newest_every (λ u. P u ⊎ IsEntering all t ys Q u) call.steps [] mine tt))
-  find_act pre (Looked w x ∷ xs) calls waiting is h tied holds origins = find_act (pre ++ Looked w x ∷ []) xs calls waiting (further pre xs (Looked w x) is) h tied holds origins
-  find_act pre (Met m x ∷ xs) calls waiting is h tied holds origins = find_act (pre ++ Met m x ∷ []) xs calls waiting (further pre xs (Met m x) is) h tied holds origins
+  find_act pre (t ∷ xs) calls waiting is h tied holds origins = find_act (pre ++ t ∷ []) xs calls waiting (further pre xs t is) h tied holds origins
 
 -- what still waits at the end, and a call of the one list
 abbrev pub Waits : List Step → Step → Type 0

@@ -13,7 +13,7 @@ use Rattle.hl_history.specs.declared.view.Entry.{Entry}
 use Rattle.hl_history.specs.Lists.{Begins, left_by}
 use Rattle.hl_words.specs.declared.view.Extent.{Extent}
 use Rattle.hl_words.specs.declared.view.Touch.{Touch}
-use Rattle.hl_words.specs.declared.view.Touch.TheVariants.{Stored as StoredIn, Loaded as LoadedFrom, Changed as ChangedIn, Called, Looked, Met as WasTold}
+use Rattle.hl_words.specs.declared.view.Touch.TheVariants.{Stored as StoredIn, Loaded as LoadedFrom, Changed as ChangedIn, Called}
 use Rattle.hl_words.specs.Rule.{left_by as leaves_by, TouchBy, by_rider, called_by, held, last_called, touches_of, Finds}
 use Rattle.hl_words.specs.States.{AreTied}
 use Rattle.hl_words.proofs.Cut.{every_append, every_weaker}
@@ -44,10 +44,6 @@ other_tagged : (i j : ℕ) (xs : List Act) (rest : List ActBy) → j ≢ i → a
 other_tagged i j [] rest apart = refl
 other_tagged i j (x ∷ xs) rest apart =
     ap (λ (b : Bool). if b then x ∷ acts_by i (tagged j xs ++ rest) else acts_by i (tagged j xs ++ rest)) (ne_eqb j i apart) ∙ other_tagged i j xs rest apart
-
-every_tagged : (P : Act → Type 0) (i : ℕ) (xs : List Act) → Every P xs → Every (λ (t : ActBy). P t.act) (tagged i xs)
-every_tagged P i [] h = tt
-every_tagged P i (x ∷ xs) h = (h.0, every_tagged P i xs h.1)
 
 theirs_tagged : (is_thread : ℕ → Bool) (i : ℕ) (xs : List Act) → is_thread i ≡ true → Every (λ (t : ActBy). is_thread t.thread ≡ true) (tagged i xs)
 theirs_tagged is_thread i [] own = tt
@@ -158,13 +154,11 @@ module _ (sizes : Sizes) (is_thread : ℕ → Bool) where
 
     shown_leaves : (i : ℕ) (t : Touch) (calls : List Entry) (rest : List ActBy) (w : ℕ) → left_at a rest ≡ w → left_at a (tagged i (told_as sizes t calls) ++ rest) ≡ leaves_by a t w
     shown_leaves i (StoredIn d v) calls rest w e = ap (λ (x : ℕ). if d == a then v else x) e
-    shown_leaves i (LoadedFrom d v) calls rest w e = e
     shown_leaves i (ChangedIn d f v) calls rest w e = ap (λ (x : ℕ). if d == a then v else x) e
     shown_leaves i (Called met left) [] rest w e = e
     shown_leaves i (Called met left) (call ∷ calls) rest w e =
         ap (left_at a) (tagged_both i (places sizes call.before call.steps) (Met left.steps ∷ []) rest) ∙ still_placed i call.before call.steps (by_thread i (Met left.steps) ∷ rest) ∙ e
-    shown_leaves i (Looked u x) calls rest w e = e
-    shown_leaves i (WasTold m n) calls rest w e = e
+    shown_leaves i _ calls rest w e = e
 
     -- nobody but threads stores at the address
     abbrev pub OnlyThreads : List TouchBy → Type 0
@@ -324,15 +318,11 @@ module _ (sizes : Sizes) (is_thread : ℕ → Bool) where
       -- behind a touch of another
       pub past_other : (none : (e : Entry) → P e → NoOthers → places sizes e.before e.steps ≡ []) (t : Touch) (ts : List Touch) (calls : List Entry) → AreTied (t ∷ ts) calls × Every P calls → Finds before (in_cell sizes t)
           → Standing whole (called_by (in_cell sizes t) (last_called before)) X
-      past_other none (StoredIn a v) ts calls tie finds = sooner
-      past_other none (LoadedFrom a v) ts calls tie finds = sooner
-      past_other none (ChangedIn a f v) ts calls tie finds = sooner
       past_other none (Called met left) ts [] tie finds = absurd tie.0
       past_other none (Called met left) ts (call ∷ calls) tie finds =
           call_stands whole met left call X X (begins call tie.1.0) tie.0.0 tie.0.1 (subst (λ (e : Extent). Standing whole e X) (sym finds.0) sooner)
           (λ h. stands_past left.steps call.before call.steps X (none call tie.1.0) h)
-      past_other none (Looked u x) ts calls tie finds = sooner
-      past_other none (WasTold m n) ts calls tie finds = sooner
+      past_other none _ ts calls tie finds = sooner
 
       -- behind a thread's, where what a load or a change found is what the trace has
       pub past_own : (i : ℕ) (t : Touch) (ts : List Touch) (calls : List Entry) → AreTied (t ∷ ts) calls × Every P calls → Finds before (in_cell sizes t)
@@ -351,5 +341,4 @@ module _ (sizes : Sizes) (is_thread : ℕ → Bool) where
           subst (Stands left.steps (left_by call)) (sym (tagged_both i (places sizes call.before call.steps) (Met left.steps ∷ []) X))
           (stands_all i left.steps call.before call.steps (by_thread i (Met left.steps) ∷ X)
           (record { one = (h.left, h.one); left = (omega arith, h.left); below = (tt, h.below); placed = λ only. ((h.placed only).0, (tt, (h.placed only).1)) })))
-      past_own i (Looked u x) ts calls tie finds loads changes = sooner
-      past_own i (WasTold m n) ts calls tie finds loads changes = sooner
+      past_own i _ ts calls tie finds loads changes = sooner

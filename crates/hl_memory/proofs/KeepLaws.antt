@@ -293,12 +293,9 @@ module _ (sizes : Sizes) (page_some : 0 < sizes.page_size) (frames_some : 0 < si
   acts_from (Called met left ∷ before) (call ∷ calls) waiting h all =
       let r = acts_from before calls (waiting ++ newest_writes call.steps []) h all.1 in
       (Called met left ∷ r.0, ap (λ (l : List Touch). Called met left ∷ l) r.1, r.2)
-  acts_from (Looked w x ∷ before) calls waiting h all =
+  acts_from (t ∷ before) calls waiting h all =
       let r = acts_from before calls waiting h all.1 in
-      (Looked w x ∷ r.0, ap (λ (l : List Touch). Looked w x ∷ l) r.1, r.2)
-  acts_from (Met m x ∷ before) calls waiting h all =
-      let r = acts_from before calls waiting h all.1 in
-      (Met m x ∷ r.0, ap (λ (l : List Touch). Met m x ∷ l) r.1, r.2)
+      (t ∷ r.0, ap (λ (l : List Touch). t ∷ l) r.1, r.2)
 
 pub acts_stand : ActsStand
 acts_stand sizes whole r page_some frames_some h =

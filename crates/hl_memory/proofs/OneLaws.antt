@@ -170,9 +170,6 @@ module _ (F : Type 0) (sizes : Sizes) (riders : List RiderState) (ending : Endin
   abbrev views : List RiderView
   views = map (λ (q : RiderState). q.view) riders
 
-  abbrev calls_at_end : ℕ → List Entry
-  calls_at_end i = calls_of (slice_get riders i)
-
   -- the acts of a rider and its calls
   acts_begin : (i : ℕ) (r : RiderState) → slice_get riders i ≡ Some r → AreTied (touches_of i history_is.0) r.calls × Every (λ (e : Entry). Begins (left_by e) (ends.steps_cut ++ ending.journal)) r.calls
   acts_begin i r at =

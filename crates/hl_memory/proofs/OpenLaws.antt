@@ -65,16 +65,13 @@ module _ (sizes : Sizes) (Q : Entry → Type 0) (end a v : ℕ) (ys : List Touch
   find_open : (pre xs : List Touch) (calls : List Entry) (low : ℕ) → AreOpen sizes (xs ++ load ∷ ys) calls low → AreTied (xs ++ load ∷ ys) calls → Every Q calls → Behind Q end pre low → OpenAt sizes Q end (pre ++ xs) ys a
   find_open pre [] calls low h tied holds behind =
       subst (λ (l : List Touch). OpenAt sizes Q end l ys a) (sym (append-nil pre)) (record { calls = calls; low = low; is_open = h.0; tied = tied; holds = holds; behind = behind })
-  find_open pre (Stored x w ∷ xs) calls low h tied holds behind = moved pre xs (Stored x w) (find_open (pre ++ Stored x w ∷ []) xs calls low h tied holds (behind_more Q end pre (Stored x w) low behind))
   find_open pre (Loaded x w ∷ xs) calls low h tied holds behind = moved pre xs (Loaded x w) (find_open (pre ++ Loaded x w ∷ []) xs calls low h.1 tied holds (behind_more Q end pre (Loaded x w) low behind))
-  find_open pre (Changed x f w ∷ xs) calls low h tied holds behind = moved pre xs (Changed x f w) (find_open (pre ++ Changed x f w ∷ []) xs calls low h tied holds (behind_more Q end pre (Changed x f w) low behind))
   find_open pre (Called met left ∷ xs) [] low h tied holds behind = absurd tied
   find_open pre (Called met left ∷ xs) (call ∷ calls) low (inl h) tied holds behind =
       moved pre xs (Called met left) (find_open (pre ++ Called met left ∷ []) xs calls low h tied.2 holds.1 (behind_more Q end pre (Called met left) low behind))
   find_open pre (Called met left ∷ xs) (call ∷ calls) low (inr h) tied holds behind =
       moved pre xs (Called met left) (find_open (pre ++ Called met left ∷ []) xs calls (closed call.before) h tied.2 holds.1 (inr (pre, met, left, [], call, refl, tied.0, refl, holds.0)))
-  find_open pre (Looked u x ∷ xs) calls low h tied holds behind = moved pre xs (Looked u x) (find_open (pre ++ Looked u x ∷ []) xs calls low h tied holds (behind_more Q end pre (Looked u x) low behind))
-  find_open pre (Met m x ∷ xs) calls low h tied holds behind = moved pre xs (Met m x) (find_open (pre ++ Met m x ∷ []) xs calls low h tied holds (behind_more Q end pre (Met m x) low behind))
+  find_open pre (t ∷ xs) calls low h tied holds behind = moved pre xs t (find_open (pre ++ t ∷ []) xs calls low h tied holds (behind_more Q end pre t low behind))
 
 -- at the end no call left more than all
 pub none_at_end : (F : Type 0) (sizes : Sizes) (riders : List RiderState) (ending : EndingState F) (ends : IsEnding sizes riders ending) (before : List TouchBy) → HasNoneLeft (map (λ (q : RiderState). q.view) riders) (length (ends.steps_cut ++ ending.journal)) before

@@ -1,6 +1,8 @@
 -- A word of an image is the sum of all adds at its address, whatever pages had its frame before.
-use Rattle.std.proofs.Common.{◌≡◌, ℕ, ◌+◌, ◌*◌, ◌<◌, List, [], ◌∷◌, ◌++◌, length, map, Some, None, slice_get, refl, ap, sym, ◌∙◌, inl, inr, ⊎_elim, subst, arith, append_assoc}
+use Rattle.std.proofs.Common.{Bool, true, false, ◌==◌, ◌≢◌, ◌≡◌, ℕ, ◌+◌, ◌*◌, ◌<◌, List, [], ◌∷◌, ◌++◌, length, map, Some, None, slice_get, refl, ap, sym, ◌∙◌, inl, inr, ⊎_elim, subst, arith, append_assoc}
+use Rattle.std.specs.Prelude.{Option, if◌then◌else◌}
 use Rattle.std.specs.List.{AllByRecursion as Every}
+use Rattle.std.proofs.lemmas.Bool.{eqb-false}
 use Rattle.std.proofs.lemmas.List.{append-nil, length-map}
 use Rattle.hl_model.specs.Sizes.{Sizes}
 use Rattle.hl_history.specs.declared.view.Entry.{Entry}
@@ -14,7 +16,6 @@ use Rattle.hl_words.proofs.LawProofs.{adds_since}
 use Rattle.hl_words.proofs.Orders.{there}
 use Rattle.hl_words.proofs.PastProofs.{touches_both}
 use Rattle.hl_images.specs.Writes.{CallsWriteNothing}
-use Rattle.hl_images.proofs.AddLaws.{elsewhere}
 use Rattle.hl_images.proofs.WordLaws.{within}
 use Rattle.hl_memory.specs.Acts.{in_cells}
 use Rattle.hl_memory.specs.Images.{ImagesAreSumsAnywhere}
@@ -25,25 +26,26 @@ use Rattle.hl_memory.proofs.ImageLaws.{none_by}
 use Rattle.hl_memory.proofs.OpenLaws.{changes_find_memory}
 use Rattle.hl_memory.proofs.WrittenLaws.{newest_write, zeroed}
 
+-- a store that leaves nothing at the address is at another one
+elsewhere : (c d v : ℕ) (o : Option ℕ) → (if d == c then Some v else o) ≡ None → (d ≢ c) × (o ≡ None)
+elsewhere c d v o = by (d == c) refl
+  where
+    by : (b : Bool) → (d == c) ≡ b → (if b then Some v else o) ≡ None → (d ≢ c) × (o ≡ None)
+    by true e none = absurd (cc none)
+    by false e none = (eqb-false d c e, none)
+
 -- of an act only what it stores
 abbrev stored_of : Touch → Touch
 stored_of (Stored d v) = Stored d v
-stored_of (Loaded d v) = Met 0 0
 stored_of (Changed d f v) = Changed d f v
-stored_of (Called met left) = Met 0 0
-stored_of (Looked w x) = Met 0 0
-stored_of (Met m x) = Met 0 0
+stored_of _ = Met 0 0
 
 abbrev all_stored : List TouchBy → List TouchBy
 all_stored history = map (λ t. by_rider t.rider (stored_of t.touch)) history
 
 leaves_same : (a w : ℕ) (t : Touch) → leaves_by a (stored_of t) w ≡ leaves_by a t w
 leaves_same a w (Stored d v) = refl
-leaves_same a w (Loaded d v) = refl
-leaves_same a w (Changed d f v) = refl
-leaves_same a w (Called met left) = refl
-leaves_same a w (Looked u x) = refl
-leaves_same a w (Met m x) = refl
+leaves_same a w _ = refl
 
 held_same : (a : ℕ) (history : List TouchBy) → held a (all_stored history) ≡ held a history
 held_same a [] = refl
@@ -52,12 +54,9 @@ held_same a (t ∷ history) = leaves_same a (held a (all_stored history)) t.touc
 adds_same : (a total : ℕ) (ts : List Touch) → AddsUp a total ts → AddsUp a total (map stored_of ts)
 adds_same a total [] h = h
 adds_same a total (Stored d v ∷ ts) h = (h.0, adds_same a total ts h.1)
-adds_same a total (Loaded d v ∷ ts) h = adds_same a total ts h
 adds_same a total (Changed d f v ∷ ts) (inl h) = inl (h.0, adds_same a total ts h.1)
 adds_same a total (Changed d f v ∷ ts) (inr h) = inr (h.0, (h.1.0, h.1.1, h.1.2, h.1.3, adds_same a h.1.1 ts h.1.4))
-adds_same a total (Called met left ∷ ts) h = adds_same a total ts h
-adds_same a total (Looked w x ∷ ts) h = adds_same a total ts h
-adds_same a total (Met m x ∷ ts) h = adds_same a total ts h
+adds_same a total (_ ∷ ts) h = adds_same a total ts h
 
 -- where each change found what the newest store at its address left, these are serial
 serial_stored : (history : List TouchBy) → ((newer before : List TouchBy) (i a found v : ℕ) → history ≡ newer ++ by_rider i (Changed a found v) ∷ before → found ≡ held a before) → IsSerial (all_stored history)
@@ -78,24 +77,18 @@ serial_stored (t ∷ history) finds = by t.touch refl (serial_stored history (λ
 adds_before : (calls : List Entry) (a total : ℕ) (xs ys : List Touch) → Every (IsZeroed calls a) xs → AddsUp a total (xs ++ ys) → AddsUp a total ys
 adds_before calls a total [] ys zero h = h
 adds_before calls a total (Stored d v ∷ xs) ys zero h = adds_before calls a total xs ys zero.1 h.1
-adds_before calls a total (Loaded d v ∷ xs) ys zero h = adds_before calls a total xs ys zero.1 h
 adds_before calls a total (Changed d f v ∷ xs) ys zero (inl h) = adds_before calls a total xs ys zero.1 h.1
 adds_before calls a total (Changed d f v ∷ xs) ys zero (inr h) =
     let no : Changed d f v ≡ Stored a 0 = (zero.0 v (inr (f, ap (λ (x : ℕ). Changed x f v) h.0))).0 in
     absurd (cc no)
-adds_before calls a total (Called met left ∷ xs) ys zero h = adds_before calls a total xs ys zero.1 h
-adds_before calls a total (Looked w x ∷ xs) ys zero h = adds_before calls a total xs ys zero.1 h
-adds_before calls a total (Met m x ∷ xs) ys zero h = adds_before calls a total xs ys zero.1 h
+adds_before calls a total (_ ∷ xs) ys zero h = adds_before calls a total xs ys zero.1 h
 
 -- acts that store nothing there add nothing
 adds_nothing : (a : ℕ) (ts : List Touch) → last_store a ts ≡ None → AddsUp a 0 ts
 adds_nothing a [] e = refl
 adds_nothing a (Stored d v ∷ ts) e = let o = elsewhere a d v (last_store a ts) e in (o.0, adds_nothing a ts o.1)
-adds_nothing a (Loaded d v ∷ ts) e = adds_nothing a ts e
 adds_nothing a (Changed d f v ∷ ts) e = let o = elsewhere a d v (last_store a ts) e in inl (o.0, adds_nothing a ts o.1)
-adds_nothing a (Called met left ∷ ts) e = adds_nothing a ts e
-adds_nothing a (Looked w x ∷ ts) e = adds_nothing a ts e
-adds_nothing a (Met m x ∷ ts) e = adds_nothing a ts e
+adds_nothing a (_ ∷ ts) e = adds_nothing a ts e
 
 theirs_stored : (sizes : Sizes) (n : ℕ) (history : List TouchBy) → Every (λ (t : TouchBy). t.rider < n) (in_cells sizes history) → Every (λ (t : TouchBy). t.rider < n) (all_stored history)
 theirs_stored sizes n [] h = tt

@@ -15,7 +15,7 @@ use Rattle.hl_history.specs.Lists.{Begins, entry, left_by, IsOf}
 use Rattle.hl_words.specs.declared.view.Extent.{Extent}
 use Rattle.hl_words.specs.declared.view.RiderView.{RiderView}
 use Rattle.hl_words.specs.declared.view.Touch.{Touch}
-use Rattle.hl_words.specs.declared.view.Touch.TheVariants.{Stored, Loaded, Changed, Called, Looked, Met}
+use Rattle.hl_words.specs.declared.view.Touch.TheVariants.{Stored, Changed, Called}
 use Rattle.hl_words.specs.Past.{HasCalls, HasNoCalls}
 use Rattle.hl_words.specs.Rule.{last_store, TouchBy, by_rider, touches_of}
 use Rattle.hl_words.specs.States.{RiderState, AreTied}
@@ -111,13 +111,11 @@ module _ (sizes : Sizes) (a : ℕ) where
   only_writes (Stored x v ∷ ts) calls waiting (inr z) tied free =
       let apart : x ≢ a = λ same. (subst (Every (IsFree sizes a)) z.0.3 free).0 z.0.1 refl (z.0.4 ∙ ap (λ (d : ℕ). Some (d / sizes.page_size)) same) in
       apart_more x v (last_store a ts) (written_first a (written_by a calls) waiting) apart (only_writes ts calls waiting z.1 tied free)
-  only_writes (Loaded x v ∷ ts) calls waiting h tied free = only_writes ts calls waiting h tied free
   only_writes (Changed x f v ∷ ts) calls waiting w tied free = write_more x v calls w.0 w.1 waiting (last_store a ts) (written_by a calls) w.3 w.2 (only_writes ts calls w.1 w.4 tied free)
   only_writes (Called met left ∷ ts) [] waiting h tied free = absurd tied
   only_writes (Called met left ∷ ts) (call ∷ calls) waiting h tied free =
       only_writes ts calls (waiting ++ newest_writes call.steps []) h tied.2 free.1 ∙ first_both a (written_by a calls) waiting (newest_writes call.steps []) ∙ ap (λ (o : Option ℕ). written_first a o waiting) (turned a (written_by a calls) call.steps [])
-  only_writes (Looked w x ∷ ts) calls waiting h tied free = only_writes ts calls waiting h tied free
-  only_writes (Met m x ∷ ts) calls waiting h tied free = only_writes ts calls waiting h tied free
+  only_writes (_ ∷ ts) calls waiting h tied free = only_writes ts calls waiting h tied free
 
 -- what waits above an address doesn't write there
 silent_above : (a n : ℕ) (w : Step) → ((t x v : ℕ) → w ≡ Write t x v → n ≤ x) → a < n → written_at a w ≡ None

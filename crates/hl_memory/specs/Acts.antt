@@ -10,7 +10,7 @@ use Rattle.hl_model.specs.Sizes.{Sizes}
 use Rattle.hl_history.specs.declared.view.Entry.{Entry}
 use Rattle.hl_history.specs.Lists.{entry, left_by}
 use Rattle.hl_words.specs.declared.view.Touch.{Touch}
-use Rattle.hl_words.specs.declared.view.Touch.TheVariants.{Stored, Loaded, Changed, Called, Looked, Met}
+use Rattle.hl_words.specs.declared.view.Touch.TheVariants.{Stored, Loaded, Changed, Called}
 use Rattle.hl_words.specs.Rule.{TouchBy, by_rider, touches_of}
 use Rattle.hl_words.specs.States.{RiderState}
 use Rattle.hl_keeper.specs.Passes.{cell_at}
@@ -21,9 +21,7 @@ abbrev pub in_cell : Sizes → Touch → Touch
 in_cell sizes (Stored a v) = Stored (cell_at sizes a) v
 in_cell sizes (Loaded a v) = Loaded (cell_at sizes a) v
 in_cell sizes (Changed a found v) = Changed (cell_at sizes a) found v
-in_cell sizes (Called met left) = Called met left
-in_cell sizes (Looked which x) = Looked which x
-in_cell sizes (Met name count) = Met name count
+in_cell sizes t = t
 
 -- those of some acts of riders
 abbrev pub in_cells : Sizes → List TouchBy → List TouchBy
@@ -64,15 +62,13 @@ AreActs sizes (Stored a v ∷ before) calls waiting =
     ((w : Step) × (older : List Step) × (waiting ≡ w ∷ older) × IsWriteAt sizes a v calls w
     × AreActs sizes before calls older)
     ⊎ (IsZeroAt sizes a v calls × AreActs sizes before calls waiting)
-AreActs sizes (Loaded a v ∷ before) calls waiting = AreActs sizes before calls waiting
 AreActs sizes (Changed a found v ∷ before) calls waiting =
     (w : Step) × (older : List Step) × (waiting ≡ w ∷ older) × IsWriteAt sizes a v calls w
     × AreActs sizes before calls older
 AreActs sizes (Called met left ∷ before) [] waiting = ⊥
 AreActs sizes (Called met left ∷ before) (call ∷ calls) waiting =
     AreActs sizes before calls (waiting ++ newest_writes call.steps [])
-AreActs sizes (Looked which x ∷ before) calls waiting = AreActs sizes before calls waiting
-AreActs sizes (Met name count ∷ before) calls waiting = AreActs sizes before calls waiting
+AreActs sizes (_ ∷ before) calls waiting = AreActs sizes before calls waiting
 
 -- These are the acts of a rider at a domain's end, where the one list is this: its touches by their
 -- addresses. What still waits was of a pass that was abandoned; and a page that it freed, it swept

@@ -2,19 +2,17 @@
 use Rattle.std.specs.Prelude.{ℕ, ◌≡◌, ◌≢◌, ◌<◌, ◌+◌, ◌%◌, ◌^◌, ◌⊎◌, List, [], ◌∷◌, length, Some, slice_get}
 use Rattle.std.specs.List.{AllByRecursion, sum}
 use Rattle.hl_memory.specs.declared.act.Act.{Act}
-use Rattle.hl_memory.specs.declared.act.Act.TheVariants.{Placed, Stored, Loaded, Changed, Met}
+use Rattle.hl_memory.specs.declared.act.Act.TheVariants.{Stored, Changed}
 use Rattle.hl_memory.specs.OneTrace.{acts_by, left_at, ActBy, AreOne}
 
 -- modulo 2^64 these acts added this to the word at an address, and stored nothing there but by adding
 abbrev pub AddsAt : ℕ → ℕ → List Act → Type 0
 AddsAt a total [] = total ≡ 0
-AddsAt a total (Placed b n ∷ before) = AddsAt a total before
 AddsAt a total (Stored b v ∷ before) = (b ≢ a) × AddsAt a total before
-AddsAt a total (Loaded b v ∷ before) = AddsAt a total before
 AddsAt a total (Changed b found v ∷ before) = ((b ≢ a) × AddsAt a total before)
     ⊎ ((b ≡ a) × ((more : ℕ) × (rest : ℕ) × (total ≡ (rest + more) % 2 ^ 64)
     × (v ≡ (found + more) % 2 ^ 64) × AddsAt a rest before))
-AddsAt a total (Met n ∷ before) = AddsAt a total before
+AddsAt a total (_ ∷ before) = AddsAt a total before
 
 -- In one trace the word at an address, where each thread added this and did nothing else there, is the sum
 -- modulo 2^64

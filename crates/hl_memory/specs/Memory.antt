@@ -12,7 +12,7 @@ use Rattle.hl_history.specs.Lists.{Begins, left_by}
 use Rattle.hl_words.specs.declared.view.Extent.{Extent}
 use Rattle.hl_words.specs.declared.view.RiderView.{RiderView}
 use Rattle.hl_words.specs.declared.view.Touch.{Touch}
-use Rattle.hl_words.specs.declared.view.Touch.TheVariants.{Stored, Loaded, Changed, Called, Looked, Met}
+use Rattle.hl_words.specs.declared.view.Touch.TheVariants.{Loaded, Changed, Called}
 use Rattle.hl_words.specs.Past.{HasAll, HasOnly}
 use Rattle.hl_words.specs.Rule.{TouchBy, by_rider, held, touches_of}
 use Rattle.hl_words.specs.States.{RiderState}
@@ -89,23 +89,17 @@ IsOpen sizes a calls low = (e : Entry) × (older : List Entry) × (calls ≡ e �
 -- behind it yet. All lists stand newest first
 abbrev pub AreOpen : Sizes → List Touch → List Entry → ℕ → Type 0
 AreOpen sizes [] calls low = Unit {0}
-AreOpen sizes (Stored a v ∷ before) calls low = AreOpen sizes before calls low
 AreOpen sizes (Loaded a v ∷ before) calls low = IsOpen sizes a calls low × AreOpen sizes before calls low
-AreOpen sizes (Changed a found v ∷ before) calls low = AreOpen sizes before calls low
 AreOpen sizes (Called met left ∷ before) [] low = ⊥
 AreOpen sizes (Called met left ∷ before) (call ∷ calls) low =
     AreOpen sizes before calls low ⊎ AreOpen sizes before calls (closed call.before)
-AreOpen sizes (Looked which x ∷ before) calls low = AreOpen sizes before calls low
-AreOpen sizes (Met name count ∷ before) calls low = AreOpen sizes before calls low
+AreOpen sizes (_ ∷ before) calls low = AreOpen sizes before calls low
 
 -- what a load or a change finds is what the newest store at its address left
 abbrev pub FindsMemory : List TouchBy → Touch → Type 0
-FindsMemory before (Stored a v) = Unit {0}
 FindsMemory before (Loaded a v) = v ≡ held a before
 FindsMemory before (Changed a found v) = found ≡ held a before
-FindsMemory before (Called met left) = Unit {0}
-FindsMemory before (Looked which x) = Unit {0}
-FindsMemory before (Met name count) = Unit {0}
+FindsMemory before _ = Unit {0}
 
 -- so it is with each of the i-th rider's
 abbrev pub FindMemory : ℕ → List TouchBy → Type 0

@@ -2,7 +2,7 @@
 use Rattle.std.specs.Prelude.{ℕ, ◌≡◌, ◌≢◌, ◌<◌, ◌≤◌, ◌+◌, ◌-◌, ◌⊎◌, List, [], ◌∷◌, ◌++◌, length, take, Some, slice_get}
 use Rattle.std.specs.List.{flat_map}
 use Rattle.hl_memory.specs.declared.act.Act.{Act}
-use Rattle.hl_memory.specs.declared.act.Act.TheVariants.{Placed, Stored, Loaded, Changed, Met}
+use Rattle.hl_memory.specs.declared.act.Act.TheVariants.{Placed, Stored, Loaded, Met}
 use Rattle.hl_memory.specs.OneTrace.{acts_by, by_thread, left_at, ActBy, AreOne}
 
 -- a record that was placed at an address for these words, of which the first so many were stored: all of
@@ -29,11 +29,9 @@ append_acts r = stores_from r.address (take r.count r.words) (Placed r.address (
 -- the acts that place or store
 abbrev pub changes : List Act → List Act
 changes [] = []
-changes (Placed a n ∷ before) = Placed a n ∷ changes before
-changes (Stored a v ∷ before) = Stored a v ∷ changes before
 changes (Loaded a v ∷ before) = changes before
-changes (Changed a found v ∷ before) = Changed a found v ∷ changes before
 changes (Met n ∷ before) = changes before
+changes (t ∷ before) = t ∷ changes before
 
 -- these acts append these records, and place and store nothing else; the newest stands first
 abbrev pub AppendsOnly : List Appended → List Act → Type 0

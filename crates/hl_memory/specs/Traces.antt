@@ -10,7 +10,7 @@ use Rattle.hl_model.specs.Sizes.{Sizes}
 use Rattle.hl_history.specs.declared.view.Entry.{Entry}
 use Rattle.hl_history.specs.Lists.{left_by}
 use Rattle.hl_words.specs.declared.view.Touch.{Touch}
-use Rattle.hl_words.specs.declared.view.Touch.TheVariants.{Stored as StoredIn, Loaded as LoadedFrom, Changed as ChangedIn, Called, Looked, Met as WasTold}
+use Rattle.hl_words.specs.declared.view.Touch.TheVariants.{Stored as StoredIn, Loaded as LoadedFrom, Changed as ChangedIn, Called}
 use Rattle.hl_words.specs.States.{RiderState}
 use Rattle.hl_keeper.specs.Passes.{PassRecord}
 use Rattle.hl_memory.specs.declared.act.Act.{Act}
@@ -41,9 +41,7 @@ abbrev pub addressed : Sizes → ℕ → Touch → Touch
 addressed sizes end (StoredIn d v) = StoredIn (address_of sizes d end) v
 addressed sizes end (LoadedFrom d v) = LoadedFrom (address_of sizes d end) v
 addressed sizes end (ChangedIn d found v) = ChangedIn (address_of sizes d end) found v
-addressed sizes end (Called met left) = Called met left
-addressed sizes end (Looked which x) = Looked which x
-addressed sizes end (WasTold name count) = WasTold name count
+addressed sizes end t = t
 
 -- the calls before this touch, of these: the newest of them is the touch's own, if it is a call
 abbrev pub calls_before : Touch → List Entry → List Entry
@@ -75,8 +73,7 @@ told_as sizes (LoadedFrom a v) calls = Loaded a v ∷ []
 told_as sizes (ChangedIn a found v) calls = Changed a found v ∷ []
 told_as sizes (Called met left) [] = []
 told_as sizes (Called met left) (call ∷ calls) = places sizes call.before call.steps ++ Met left.steps ∷ []
-told_as sizes (Looked which x) calls = []
-told_as sizes (WasTold name count) calls = []
+told_as sizes _ calls = []
 
 -- touches by address as acts
 abbrev pub acts_of : Sizes → List Touch → List Entry → List Act
