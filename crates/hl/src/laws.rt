@@ -42,8 +42,9 @@ pub fn over_were_done()
 
 /// What the threads of a work did is one trace, if each returned a value and the log was closed: a list of plain acts, of
 /// each thread just its own, in its order. Each load, and each change, found what the newest store before it at that very
-/// address left, or 0. No two records share an address. The words in memory at the end, from the closed offset to the tail,
-/// are what the list leaves there; and so are those of each page below the flushed offset, whose image the device took.
+/// address left, or 0. No two records share an address: each lies where the one before it ends, or on the next page, and the
+/// newest ends at the tail. The words in memory at the end, from the closed offset to the tail, are what the list leaves
+/// there; and so are those of each page below the flushed offset, whose image the device took.
 /// [`with_threads`](crate::with_threads) and [`with_memory`](crate::with_memory) say so of their own results.
 pub fn threads_are_one<R: Wait, P: Work<R>>(_work: &P)
     ensures { ThreadsAreOne P.Job (P.returns _work.now) (P.took _work.now) }

@@ -40,7 +40,8 @@
 //!
 //! What follows from one trace alone, for who uses a log: a word that all threads only add to ends as the sum
 //! (`CountersAreSums`); and of threads that append records, and store nothing else, each record is read by everybody as
-//! it was appended (`RecordsAreApart`, `RecordsStay`, `RecordsAreRead`, `RecordsAreWhole`).
+//! it was appended (`RecordsAreApart`, `RecordsStay`, `RecordsAreRead`, `RecordsAreWhole`). At the end the log's tail is where
+//! the newest record ends, which is the sum of all lengths and of what was skipped at ends of pages (`TailIsTheSum`).
 //!
 //! Nothing is said of loads outside a pass that are no copy of a page. All laws are in [`laws`].
 #![tactic(auto)]
