@@ -1,5 +1,5 @@
 -- What a rider flushed is an image.
-use Rattle.std.proofs.Common.{◌≡◌, ℕ, zero, suc, ◌+◌, true, List, [], ◌∷◌, ◌++◌, map, Some, slice_get, refl, ap, sym, ◌∙◌, subst, append_assoc}
+use Rattle.std.proofs.Common.{◌≡◌, ℕ, ◌+◌, true, List, [], ◌∷◌, ◌++◌, map, Some, slice_get, refl, ap, sym, ◌∙◌, subst, append_assoc}
 use Rattle.std.specs.List.{AllByRecursion as Every}
 use Rattle.hl_model.specs.declared.step.Step.{Step}
 use Rattle.hl_model.specs.declared.step.Step.TheVariants.{FlushTake, FlushDone}
@@ -19,18 +19,13 @@ use Rattle.hl_images.specs.Flushes.{HasFlushed, CopiedStays, FlushedStays, Flush
 use Rattle.hl_images.specs.Images.{IsImaged}
 use Rattle.hl_images.specs.Later.{IsLater}
 use Rattle.hl_images.proofs.LaterLaws.{has_load, still, loads, call}
-
--- a place of a row that was mapped
-pub at_mapped : {X Y : Type 0} (f : X → Y) (xs : List X) (i : ℕ) (x : X) → slice_get xs i ≡ Some x → slice_get (map f xs) i ≡ Some (f x)
-at_mapped f [] i x e = absurd cc
-at_mapped f (y ∷ ys) zero x e = let is : y ≡ x = cc e in ap (λ z. Some (f z)) is
-at_mapped f (y ∷ ys) (suc i) x e = at_mapped f ys i x e
+use Rattle.hl_images.proofs.WordLaws.{calls_at, view_at}
 
 -- the one list begins with what a call of a rider left
 pub begins_by : (whole : List Step) (riders : List RiderState) (i : ℕ) (r old : RiderState) (was now : ℕ) (list steps : List Step) → IsOneList whole (map (λ (q : RiderState). q.calls) riders) → slice_get riders i ≡ Some r
     → IsLater (with_entry was now list steps old) r → Begins (list ++ steps) whole
 begins_by whole riders i r old was now list steps one at later =
-    let of : IsOf whole r.calls = every_at (IsOf whole) (map (λ (q : RiderState). q.calls) riders) one.each i r.calls (at_mapped (λ (q : RiderState). q.calls) riders i r at) in
+    let of : IsOf whole r.calls = every_at (IsOf whole) (map (λ (q : RiderState). q.calls) riders) one.each i r.calls (calls_at riders i r at) in
     let all = subst (Every (λ (e : Entry). Begins (left_by e) whole)) later.calls of.begins in
     (every_back (λ (e : Entry). Begins (left_by e) whole) later.more (entry list steps ∷ old.calls) all).0
 
@@ -94,7 +89,7 @@ flushed_by F sizes riders ending i page image r ends at h =
         words = λ n v there.
             let l = has_load cell image c.copying.view n v there in
             loads_between_own _ _ _ views i (cell + n) v (extent_met c.was take) (extent_left c.now take) (extent_met h.had done) (extent_left h.has done) r.view h.done.touches.0 (c.copy.touches.0 ++ l.newer) (l.between ++ c.take.touches.0) c.before.view.touches
-            ends.ruled.rule (at_mapped (λ (q : RiderState). q.view) riders i r at)
+            ends.ruled.rule (view_at riders i r at)
             (h.done.touches.1 ∙ ap (λ (x : List Touch). h.done.touches.0 ++ Called (extent_met h.had done) (extent_left h.has done) ∷ x)
             (copy_touches cell n v image (Called (extent_met c.was take) (extent_left c.now take)) c.before.view c.copying.view h.answering.view c.take.touches.0 c.copy.touches.0 l.newer l.between c.take.touches.1 c.copy.touches.1 l.touches));
       },

@@ -12,6 +12,7 @@ use Rattle.hl_model.specs.Pages.{clean_of, next_to_clean}
 use Rattle.hl_model.specs.Replies.{IsAccepted}
 use Rattle.hl_model.specs.Settled.{safe_read_only}
 use Rattle.hl_model.specs.Sizes.{Sizes}
+use Rattle.hl_model.specs.Views.{slot_view}
 use Rattle.hl_history.specs.declared.view.Entry.{Entry}
 use Rattle.hl_history.specs.Lists.{entry, left_by, IsOf}
 use Rattle.hl_words.specs.declared.view.RiderView.{RiderView}
@@ -64,6 +65,24 @@ call_frees_none : (ts : List Step) (s : Step) (p : ℕ) → is_call s ≡ true �
 call_frees_none [] s p own is = frees_none s p (call_is s own).1 is
 call_frees_none (t ∷ []) s p own is = absurd cc
 call_frees_none (t ∷ (u ∷ ts)) s p own is = absurd cc
+
+-- what waits to be entered: a store at an address more, or with a step that writes nothing no more
+pub more_waits : (a v : ℕ) (p : PassRecord) → newest_writes (p.touches ++ Write p.slot a v ∷ []) [] ≡ Write p.slot a v ∷ newest_writes p.touches []
+more_waits a v p = writes_both p.touches (Write p.slot a v ∷ []) []
+
+pub no_more_waits : (s : Step) (p : PassRecord) → is_call s ≡ true → newest_writes (p.touches ++ s ∷ []) [] ≡ newest_writes p.touches []
+no_more_waits s p own = writes_both p.touches (s ∷ []) [] ∙ no_write s (newest_writes p.touches []) (call_is s own).0
+
+pub still_waits : (s : Step) (p : PassRecord) → is_touch s ≡ false → newest_writes p.touches [] ++ newest_writes (s ∷ []) [] ≡ newest_writes p.touches []
+still_waits s p touch = ap (λ (l : List Step). newest_writes p.touches [] ++ l) (no_write s [] touch) ∙ append-nil (newest_writes p.touches [])
+
+-- none of that lies below what is sealed
+pub waits_above : (sizes : Sizes) (whole : List Step) (p : PassRecord) → 0 < sizes.page_size → IsAccepted sizes whole → slot_view sizes p.slot whole ≡ Some p.held → AreTouches p.slot p.held p.touches
+    → Every (λ (w : Step). (t a v : ℕ) → w ≡ Write t a v → safe_read_only whole ≤ a) (newest_writes p.touches [])
+waits_above sizes whole p some ok view touches =
+    newest_every (λ (w : Step). (t a v : ℕ) → w ≡ Write t a v → safe_read_only whole ≤ a) p.touches []
+    (every_place (λ (w : Step). (t a v : ℕ) → w ≡ Write t a v → safe_read_only whole ≤ a) [] p.touches
+    (λ f x r is t a v same. pending_stays_above sizes whole p.slot p.held f r t a v some ok view (subst (AreTouches p.slot p.held) (is ∙ ap (λ (z : Step). f ++ z ∷ r) same) touches))) tt
 
 module _ (sizes : Sizes) where
   loads : (waiting : List Step) (calls : List Entry) (cell : ℕ) (words : List ℕ) (view : RiderView) → AreEntered sizes view.touches calls waiting → AreEntered sizes (loaded_all cell words view).touches calls waiting
@@ -147,97 +166,68 @@ module _ (sizes : Sizes) where
     ends = λ whole r h. record { waiting = []; entered = h.entered; frees = h.frees; calls = h.calls; above = tt; within = h.within };
   }
 
-  -- a store at an address, among touches that wait
-  more_waits : (a v : ℕ) (p : PassRecord) → newest_writes (p.touches ++ Write p.slot a v ∷ []) [] ≡ Write p.slot a v ∷ newest_writes p.touches []
-  more_waits a v p = writes_both p.touches (Write p.slot a v ∷ []) []
-
   is_write : (a v : ℕ) (p : PassRecord) → store_fault p a ≡ None → PassEnters sizes p → IsWriteOf sizes (cell_at sizes a) v p.rider.calls (Write p.slot a v)
   is_write a v p fault h =
       let lawful = store_lawful p a v fault in
       (p.slot, a, refl, refl, h.newest, h.older, h.newest_is, omega (arith, lawful.2, ap (λ (x : ℕ). x) (touches_rise p.slot p.held p.touches h.touches).2, h.sees))
 
-  stores : (a v : ℕ) (p : PassRecord) → store_fault p a ≡ None → PassEnters sizes p → PassEnters sizes (with_store sizes a v p)
-  unfolding with_store
-  stores a v p fault h = record {
-    entered = inl (Write p.slot a v, newest_writes p.touches [], more_waits a v p, is_write a v p fault h, h.entered);
-    frees = h.frees;
-    calls = h.calls;
-    within = ((λ d v e page_some frames_some. absurd (cc e)), h.within);
-    touches = (touches_more p.slot p.held p.touches (Write p.slot a v) h.touches (store_lawful p a v fault)).0;
+  -- a pass with the same view, whose rider made no other call
+  same_calls : (p q : PassRecord) → PassEnters sizes p → AreEntered sizes q.rider.view.touches q.rider.calls (newest_writes q.touches []) → FreesSwept sizes q.rider.view.touches q.rider.calls → LoadsWithin sizes q.rider.view.touches → AreTouches q.slot q.held q.touches → q.rider.calls ≡ p.rider.calls
+      → q.held ≡ p.held → PassEnters sizes q
+  same_calls p q h entered frees within touches calls held = record {
+    entered = entered;
+    frees = frees;
+    calls = subst (Every (λ (e : Entry). IsOneCall e.steps)) (sym calls) h.calls;
+    within = within;
+    touches = touches;
     newest = h.newest;
     older = h.older;
-    newest_is = h.newest_is;
-    sees = h.sees;
+    newest_is = calls ∙ h.newest_is;
+    sees = subst (λ (v : View). v.tail ≤ tail sizes (left_by h.newest)) (sym held) h.sees;
   }
+
+  stores : (a v : ℕ) (p : PassRecord) → store_fault p a ≡ None → PassEnters sizes p → PassEnters sizes (with_store sizes a v p)
+  unfolding with_store
+  stores a v p fault h =
+      same_calls p (with_store sizes a v p) h (inl (Write p.slot a v, newest_writes p.touches [], more_waits a v p, is_write a v p fault h, h.entered)) h.frees ((λ d v e page_some frames_some. absurd (cc e)), h.within)
+      (touches_more p.slot p.held p.touches (Write p.slot a v) h.touches (store_lawful p a v fault)).0 refl refl
 
   changes : (a found v : ℕ) (p : PassRecord) → store_fault p a ≡ None → PassEnters sizes p → PassEnters sizes (with_change sizes a found v p)
   unfolding with_change
-  changes a found v p fault h = record {
-    entered = (Write p.slot a v, newest_writes p.touches [], more_waits a v p, is_write a v p fault h, h.entered);
-    frees = h.frees;
-    calls = h.calls;
-    within = ((λ d v e page_some frames_some. absurd (cc e)), h.within);
-    touches = (touches_more p.slot p.held p.touches (Write p.slot a v) h.touches (store_lawful p a v fault)).0;
-    newest = h.newest;
-    older = h.older;
-    newest_is = h.newest_is;
-    sees = h.sees;
-  }
+  changes a found v p fault h =
+      same_calls p (with_change sizes a found v p) h (Write p.slot a v, newest_writes p.touches [], more_waits a v p, is_write a v p fault h, h.entered) h.frees ((λ d v e page_some frames_some. absurd (cc e)), h.within)
+      (touches_more p.slot p.held p.touches (Write p.slot a v) h.touches (store_lawful p a v fault)).0 refl refl
 
   pass_loads : (a v : ℕ) (p : PassRecord) → PassEnters sizes p → PassEnters sizes (with_load sizes a v p)
   unfolding with_load
-  pass_loads a v p h = record { entered = h.entered; frees = h.frees; calls = h.calls; within = ((λ d w e page_some frames_some. let same : cell_at sizes a ≡ d = cc e in omega (arith, same, cell_low sizes a page_some frames_some)), h.within); touches = h.touches; newest = h.newest; older = h.older; newest_is = h.newest_is; sees = h.sees }
+  pass_loads a v p h =
+      same_calls p (with_load sizes a v p) h h.entered h.frees ((λ d w e page_some frames_some. let same : cell_at sizes a ≡ d = cc e in omega (arith, same, cell_low sizes a page_some frames_some)), h.within) h.touches refl refl
 
   news : (read_only head ended : ℕ) (p : PassRecord) → PassEnters sizes p → PassEnters sizes (with_news read_only head ended p)
   unfolding with_news
-  news read_only head ended p h = record { entered = h.entered; frees = h.frees; calls = h.calls; within = ((λ d v e page_some frames_some. absurd (cc e)), ((λ d v e page_some frames_some. absurd (cc e)), ((λ d v e page_some frames_some. absurd (cc e)), h.within))); touches = h.touches; newest = h.newest; older = h.older; newest_is = h.newest_is; sees = h.sees }
+  news read_only head ended p h =
+      same_calls p (with_news read_only head ended p) h h.entered h.frees ((λ d v e page_some frames_some. absurd (cc e)), ((λ d v e page_some frames_some. absurd (cc e)), ((λ d v e page_some frames_some. absurd (cc e)), h.within))) h.touches refl refl
 
   looks : (read_only head : ℕ) (p : PassRecord) → PassEnters sizes p → PassEnters sizes (with_look read_only head p)
   unfolding with_look
-  looks read_only head p h = by (nat_lt (seen p).read_only read_only || nat_lt (seen p).head head)
+  looks read_only head p h = same_calls p (with_look read_only head p) h (by b).0 h.frees ((λ d v e page_some frames_some. absurd (cc e)), ((λ d v e page_some frames_some. absurd (cc e)), h.within)) (by b).1 refl refl
     where
+      b : Bool
+      b = nat_lt (seen p).read_only read_only || nat_lt (seen p).head head
+
       look : Step
       look = Look p.slot (max (seen p).read_only read_only) (max (seen p).head head)
 
-      by : (b : Bool) → PassEnters sizes (record {
-        slot = p.slot;
-        stamp = p.stamp;
-        epoch = p.epoch;
-        held = p.held;
-        touches = p.touches ++ (if b then look ∷ [] else []);
-        rider = (with_look read_only head p).rider;
-      })
-      by true = record {
-        entered = subst (λ (l : List Step). AreEntered sizes p.rider.view.touches p.rider.calls l) (sym (writes_both p.touches (look ∷ []) [])) h.entered;
-        frees = h.frees;
-        calls = h.calls;
-        within = ((λ d v e page_some frames_some. absurd (cc e)), ((λ d v e page_some frames_some. absurd (cc e)), h.within));
-        touches = (touches_more p.slot p.held p.touches look h.touches (refl, omega arith, omega arith)).0;
-        newest = h.newest;
-        older = h.older;
-        newest_is = h.newest_is;
-        sees = h.sees;
-      }
-      by false = record {
-        entered = subst (λ (l : List Step). AreEntered sizes p.rider.view.touches p.rider.calls (newest_writes l [])) (sym (append-nil p.touches)) h.entered;
-        frees = h.frees;
-        calls = h.calls;
-        within = ((λ d v e page_some frames_some. absurd (cc e)), ((λ d v e page_some frames_some. absurd (cc e)), h.within));
-        touches = subst (AreTouches p.slot p.held) (sym (append-nil p.touches)) h.touches;
-        newest = h.newest;
-        older = h.older;
-        newest_is = h.newest_is;
-        sees = h.sees;
-      }
+      by : (b : Bool) → AreEntered sizes p.rider.view.touches p.rider.calls (newest_writes (p.touches ++ (if b then look ∷ [] else [])) []) × AreTouches p.slot p.held (p.touches ++ (if b then look ∷ [] else []))
+      by true = (subst (λ (l : List Step). AreEntered sizes p.rider.view.touches p.rider.calls l) (sym (writes_both p.touches (look ∷ []) [])) h.entered, (touches_more p.slot p.held p.touches look h.touches (refl, omega arith, omega arith)).0)
+      by false = (subst (λ (l : List Step). AreEntered sizes p.rider.view.touches p.rider.calls (newest_writes l [])) (sym (append-nil p.touches)) h.entered, subst (AreTouches p.slot p.held) (sym (append-nil p.touches)) h.touches)
 
   -- the touches of a pass and its step enter
   all_enter : (was now : ℕ) (list : List Step) (s : Step) (p : PassRecord) → is_call s ≡ true → PassEnters sizes p → RiderEnters sizes (with_entry was now list (p.touches ++ s ∷ []) p.rider)
   all_enter was now list s p own h =
-      let kind = call_is s own in
       let all = are_touches p.slot p.held p.touches h.touches in
-      let waits : newest_writes (p.touches ++ s ∷ []) [] ≡ newest_writes p.touches [] = writes_both p.touches (s ∷ []) [] ∙ no_write s (newest_writes p.touches []) kind.0 in
       record {
-        entered = subst (λ (l : List Step). AreEntered sizes p.rider.view.touches p.rider.calls l) (sym waits) h.entered;
+        entered = subst (λ (l : List Step). AreEntered sizes p.rider.view.touches p.rider.calls l) (sym (no_more_waits s p own)) h.entered;
         frees = ((λ q is. absurd (call_frees_none p.touches s q own is)), h.frees);
         calls = (inr (p.touches, s, refl, all, inr own), h.calls);
         within = ((λ d v e page_some frames_some. absurd (cc e)), h.within);
@@ -280,10 +270,9 @@ module _ (sizes : Sizes) where
         let all = all_enter was now list s p own h in
         record { entered = all.entered; frees = all.frees; calls = all.calls; within = all.within; touches = tt; newest = entry list (p.touches ++ s ∷ []); older = p.rider.calls; newest_is = refl; sees = below };
     call = λ was now list s p touch free some ok of h.
-        let waits : newest_writes p.touches [] ++ newest_writes (s ∷ []) [] ≡ newest_writes p.touches [] = ap (λ (l : List Step). newest_writes p.touches [] ++ l) (no_write s [] touch) ∙ append-nil (newest_writes p.touches []) in
         let good = beginnings_are_accepted sizes list (s ∷ []) ok in
         with_newest list (s ∷ []) p (with_entry was now list (s ∷ []) p.rider) p.rider.calls
-        (subst (λ (l : List Step). AreEntered sizes p.rider.view.touches p.rider.calls l) (sym waits) h.entered)
+        (subst (λ (l : List Step). AreEntered sizes p.rider.view.touches p.rider.calls l) (sym (still_waits s p touch)) h.entered)
         ((λ q is. absurd (frees_none s q free is)), h.frees) (inr ([], s, refl, tt, inl refl), h.calls) ((λ d v e page_some frames_some. absurd (cc e)), h.within) refl h.touches (omega (arith, sees_on list p some good of h, tail-append sizes list (s ∷ []) some ok));
     refused = λ was now list p some ok of h.
         with_newest list [] p (with_entry was now list [] p.rider) p.rider.calls
@@ -296,8 +285,6 @@ module _ (sizes : Sizes) where
       frees = h.frees;
       calls = h.calls;
       within = h.within;
-      above = newest_every (λ (w : Step). (t a v : ℕ) → w ≡ Write t a v → safe_read_only whole ≤ a) p.touches []
-          (every_place (λ (w : Step). (t a v : ℕ) → w ≡ Write t a v → safe_read_only whole ≤ a) [] p.touches
-          (λ f x r is t a v same. pending_stays_above sizes whole p.slot p.held f r t a v some ok view (subst (AreTouches p.slot p.held) (is ∙ ap (λ (z : Step). f ++ z ∷ r) same) h.touches))) tt;
+      above = waits_above sizes whole p some ok view h.touches;
     };
   }

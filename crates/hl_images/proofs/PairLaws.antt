@@ -12,7 +12,8 @@ use Rattle.hl_keeper.specs.Pages.{first_cell, loaded_all}
 use Rattle.hl_domain.specs.Domains.{with_entry}
 use Rattle.hl_images.specs.Later.{IsLater}
 use Rattle.hl_images.specs.Pairs.{FlushedByTwoStays, FlushedByTwoIsImaged}
-use Rattle.hl_images.proofs.ImageLaws.{at_mapped, begins_by, copy_touches}
+use Rattle.hl_images.proofs.ImageLaws.{begins_by, copy_touches}
+use Rattle.hl_images.proofs.WordLaws.{view_at}
 use Rattle.hl_images.proofs.LaterLaws.{has_load, still, touch, call}
 
 pub flushed_by_two_stays : FlushedByTwoStays
@@ -90,7 +91,7 @@ flushed_by_two_is_imaged F sizes riders ending i k page image flusher copier end
           copier_touches cell n v image h.taking.view flusher.view c.asked.view c.copying.view h.telling.view c.tell.touches.0 c.copy.touches.0 l.newer l.between told_name c.tell.touches.1 c.copy.touches.1 l.touches in
           let is : h.telling.view.touches ≡ own = at_load ∙ ap (λ (x : List Touch). newer ++ Loaded (cell + n) v ∷ (between ++ Met flusher.view.name (length x) ∷ c.asked.view.touches)) t.take.touches.1 in
           loads_between _ _ _ views i k (cell + n) v (extent_met t.was take) (extent_left t.now take) (extent_met h.had done) (extent_left h.has done) copier.view flusher.view h.since.touches.0 between c.asked.view.touches newer t.take.touches.0 h.done.touches.0 h.tell.touches.0 h.wait.touches.0 t.before.view.touches
-          ends.ruled.rule (at_mapped (λ (q : RiderState). q.view) riders i copier ati) (at_mapped (λ (q : RiderState). q.view) riders k flusher atk)
+          ends.ruled.rule (view_at riders i copier ati) (view_at riders k flusher atk)
           (h.since.touches.1 ∙ ap (λ (x : List Touch). h.since.touches.0 ++ x) is)
           (flusher_touches h.taking.view h.answering.view h.waiting.view flusher.view h.telling.view copier.view ended begun t.take.touches.0 t.before.view.touches h.wait.touches.0 h.tell.touches.0 h.done.touches.0 own h.since.name is t.take.touches.1 h.wait.touches.1 h.tell.touches.1 h.done.touches.1);
     }

@@ -1,9 +1,11 @@
 -- Which call entered a step of the one list, and each rider's calls and view at its place.
-use Rattle.std.proofs.Common.{◌≡◌, ℕ, zero, suc, ◌+◌, ◌<◌, ◌≤◌, Bool, true, false, List, [], ◌∷◌, ◌++◌, length, map, Some, slice_get, refl, ap, subst, arith}
+use Rattle.std.proofs.Common.{◌≡◌, ℕ, zero, suc, ◌+◌, ◌<◌, ◌≤◌, Bool, true, false, List, [], ◌∷◌, ◌++◌, length, map, Some, slice_get, refl, ap, ◌∙◌, subst, arith}
 use Rattle.std.specs.Prelude.{nat_le, nat_lt, ◌&&◌, if◌then◌else◌}
 use Rattle.std.specs.List.{sum_by}
+use Rattle.std.specs.Option.{option_map}
 use Rattle.std.proofs.lemmas.Bool.{ltb-true, leb-true}
 use Rattle.std.proofs.lemmas.List.Sums.{sum_by-cons}
+use Rattle.std.proofs.lemmas.Option.{slice_get-map, slice_get_within}
 use Rattle.hl_model.specs.declared.step.Step.{Step}
 use Rattle.hl_history.specs.declared.view.Entry.{Entry}
 use Rattle.hl_history.specs.Lists.{Begins, left_by, enters_at, entered_at, IsOf, IsOneList}
@@ -31,11 +33,6 @@ module _ {X : Type 0} where
   in_middle (y ∷ xs) ys zs zero x e le less = absurd (omega (arith, le))
   in_middle (y ∷ xs) ys zs (suc p) x e le less = in_middle xs ys zs p x e (omega (arith, le)) (omega (arith, less))
 
-  pub within : (xs : List X) (i : ℕ) (x : X) → slice_get xs i ≡ Some x → i < length xs
-  within [] i x e = absurd cc
-  within (y ∷ ys) zero x e = omega arith
-  within (y ∷ ys) (suc i) x e = omega (arith, within ys i x e)
-
 -- the call that entered a step entered it at a place of its own
 enters_range : (p : ℕ) (e : Entry) → 0 < enters_at p e → (length e.before ≤ p) × (p < length e.before + length e.steps)
 enters_range p e h = by (nat_le (length e.before) p) refl (nat_lt p (length e.before + length e.steps)) refl h
@@ -61,7 +58,7 @@ pub record EnteredAt (records : List (List Entry)) (p : ℕ) (x : Step) : Type 0
 
 pub entered_call : (list : List Step) (records : List (List Entry)) → IsOneList list records → (p : ℕ) (x : Step) → slice_get list p ≡ Some x → EnteredAt records p x
 entered_call list records one p x here =
-    let l = some_positive (entered_at p) records (omega (arith, one.once p (within list p x here))) in
+    let l = some_positive (entered_at p) records (omega (arith, one.once p (slice_get_within list p x here))) in
     let e = some_positive (enters_at p) l.1 l.3 in
     let range = enters_range p e.1 e.3 in
     let of_l : IsOf list l.1 = every_at (IsOf list) records one.each l.0 l.1 l.2 in
@@ -69,23 +66,21 @@ entered_call list records one p x here =
     let inside = in_middle e.1.before e.1.steps starts.0 p x (subst (λ (z : List Step). slice_get z p ≡ Some x) starts.1 here) range.0 range.1 in
     record { whose = l.0; calls = l.1; record_at = l.2; number = e.0; call = e.1; call_at = e.2; low = range.0; high = range.1; step = inside.0; step_at = inside.1 }
 
+-- an element of a row that was mapped
+pub mapped_at : {X Y : Type 0} (f : X → Y) (xs : List X) (i : ℕ) (y : Y) → slice_get (map f xs) i ≡ Some y → (x : X) × (slice_get xs i ≡ Some x) × (f x ≡ y)
+mapped_at f [] i y e = absurd cc
+mapped_at f (x ∷ xs) zero y e = let is : f x ≡ y = cc e in (x, refl, is)
+mapped_at f (x ∷ xs) (suc i) y e = mapped_at f xs i y e
+
 -- a rider's calls and its view at its place
 pub calls_at : (riders : List RiderState) (i : ℕ) (r : RiderState) → slice_get riders i ≡ Some r → slice_get (map (λ (q : RiderState). q.calls) riders) i ≡ Some r.calls
-calls_at [] i r e = absurd cc
-calls_at (x ∷ xs) zero r e = let is : x ≡ r = cc e in ap (λ (q : RiderState). Some q.calls) is
-calls_at (x ∷ xs) (suc i) r e = calls_at xs i r e
+calls_at riders i r e = slice_get-map (λ (q : RiderState). q.calls) riders i ∙ ap (option_map (λ (q : RiderState). q.calls)) e
 
 pub view_at : (riders : List RiderState) (i : ℕ) (r : RiderState) → slice_get riders i ≡ Some r → slice_get (map (λ (q : RiderState). q.view) riders) i ≡ Some r.view
-view_at [] i r e = absurd cc
-view_at (x ∷ xs) zero r e = let is : x ≡ r = cc e in ap (λ (q : RiderState). Some q.view) is
-view_at (x ∷ xs) (suc i) r e = view_at xs i r e
+view_at riders i r e = slice_get-map (λ (q : RiderState). q.view) riders i ∙ ap (option_map (λ (q : RiderState). q.view)) e
 
 pub whose_calls : (riders : List RiderState) (i : ℕ) (d : List Entry) → slice_get (map (λ (q : RiderState). q.calls) riders) i ≡ Some d → (r : RiderState) × (slice_get riders i ≡ Some r) × (r.calls ≡ d)
-whose_calls [] i d e = absurd cc
-whose_calls (x ∷ xs) zero d e = let is : x.calls ≡ d = cc e in (x, refl, is)
-whose_calls (x ∷ xs) (suc i) d e = whose_calls xs i d e
+whose_calls riders i d e = mapped_at (λ (q : RiderState). q.calls) riders i d e
 
 pub whose_view : (riders : List RiderState) (i : ℕ) (v : RiderView) → slice_get (map (λ (q : RiderState). q.view) riders) i ≡ Some v → (r : RiderState) × (slice_get riders i ≡ Some r) × (r.view ≡ v)
-whose_view [] i v e = absurd cc
-whose_view (x ∷ xs) zero v e = let is : x.view ≡ v = cc e in (x, refl, is)
-whose_view (x ∷ xs) (suc i) v e = whose_view xs i v e
+whose_view riders i v e = mapped_at (λ (q : RiderState). q.view) riders i v e

@@ -3,6 +3,7 @@ use Rattle.std.proofs.Common.{◌≡◌, ℕ, ◌+◌, ◌*◌, ◌/◌, ◌<◌
 use Rattle.std.proofs.lemmas.Bool.{both_ways, cases_lt}
 use Rattle.std.proofs.lemmas.List.{append-nil}
 use Rattle.std.proofs.Math.Nat.{div-add-mod, div-mul-le_self, mul-le-mul_right}
+use Rattle.std.proofs.lemmas.Option.{slice_get_within}
 use Rattle.hl_model.specs.declared.step.Step.{Step}
 use Rattle.hl_model.specs.declared.step.Step.TheVariants.{FlushTake, FlushDone}
 use Rattle.hl_model.specs.declared.view.Six.{Six}
@@ -31,7 +32,7 @@ use Rattle.hl_images.specs.Images.{IsImaged}
 use Rattle.hl_images.proofs.CellLaws.{cell_low, cell_of_place}
 use Rattle.hl_images.proofs.PlaceLaws.{every_both, begun, shorter, low_last, at_later, not_yet}
 use Rattle.hl_images.proofs.TakenLaws.{sealed}
-use Rattle.hl_images.proofs.WordLaws.{calls_at, whose_view, within}
+use Rattle.hl_images.proofs.WordLaws.{calls_at, whose_view}
 use Rattle.hl_memory.specs.Acts.{in_cells, IsHistory}
 use Rattle.hl_memory.specs.Images.{ImagesAreMemory}
 use Rattle.hl_memory.specs.Memory.{HasNoneLeft, WordsAreMemory}
@@ -99,7 +100,7 @@ pub loaded_at : (F : Type 0) (sizes : Sizes) (riders : List RiderState) (ending 
 loaded_at F sizes riders ending page k v image i page_some frames_some history its there_is =
     let whole = i.ends.steps_cut ++ ending.journal in
     let views = map (λ (q : RiderState). q.view) riders in
-    let inside : k < sizes.page_size = omega (arith, within image k v there_is, i.places) in
+    let inside : k < sizes.page_size = omega (arith, slice_get_within image k v there_is, i.places) in
     let a = page * sizes.page_size + k in
     let cell = first_cell sizes page + k in
     let accepted = i.ends.accepted in

@@ -2,6 +2,7 @@
 use Rattle.std.proofs.Common.{◌≡◌, ◌≢◌, ℕ, ◌+◌, ◌*◌, ◌<◌, ◌⊎◌, List, [], ◌∷◌, ◌++◌, map, Some, None, slice_get, ap, sym, ◌∙◌, inl, inr, ⊎_elim, subst, arith, append_assoc}
 use Rattle.std.proofs.lemmas.Bool.{cases_eq}
 use Rattle.std.proofs.lemmas.List.{append-nil}
+use Rattle.std.proofs.lemmas.Option.{slice_get_within}
 use Rattle.hl_model.specs.Sizes.{Sizes}
 use Rattle.hl_history.specs.declared.view.Entry.{Entry}
 use Rattle.hl_words.specs.Rule.{last_store, TouchBy, by_rider, touches_of}
@@ -10,7 +11,7 @@ use Rattle.hl_words.proofs.Cut.{every_at}
 use Rattle.hl_keeper.specs.Endings.{EndingState}
 use Rattle.hl_images.specs.Images.{IsImaged}
 use Rattle.hl_images.specs.Writes.{CallsWriteNothing, LastWrites}
-use Rattle.hl_images.proofs.WordLaws.{calls_at, whose_calls, within}
+use Rattle.hl_images.proofs.WordLaws.{calls_at, whose_calls}
 use Rattle.hl_memory.specs.Acts.{IsHistory}
 use Rattle.hl_memory.specs.Images.{ImagesAreWords, ImagesAreZero, ImagesAreWrites}
 use Rattle.hl_memory.proofs.ActLaws.{HasNoneAt, HasAt, has_at}
@@ -49,7 +50,7 @@ is_written : (F : Type 0) (sizes : Sizes) (riders : List RiderState) (ending : E
     → IsHistory sizes (i.ends.steps_cut ++ ending.journal) riders i.ends.ruled.rule.order.0 history → slice_get image k ≡ Some v → IsWritten riders (page * sizes.page_size + k) v
 is_written F sizes riders ending page k v image i page_some frames_some history its here =
     let a = page * sizes.page_size + k in
-    let inside : k < sizes.page_size = omega (arith, within image k v here, i.places) in
+    let inside : k < sizes.page_size = omega (arith, slice_get_within image k v here, i.places) in
     let m = images_are_memory F sizes riders ending page k v image i page_some frames_some history its here in
     let before = m.1 in
     let wrote : (j : ℕ) (r : RiderState) → slice_get riders j ≡ Some r → last_store a (touches_of j before) ≡ written_by a r.calls =

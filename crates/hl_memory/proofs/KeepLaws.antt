@@ -10,7 +10,7 @@ use Rattle.hl_model.specs.declared.step.Step.{Step}
 use Rattle.hl_model.specs.declared.step.Step.TheVariants.{Acquire, Refresh, Release, Look, Write}
 use Rattle.hl_model.specs.declared.view.View.{View}
 use Rattle.hl_model.specs.Replies.{IsAccepted}
-use Rattle.hl_model.specs.Settled.{safe_read_only, closed}
+use Rattle.hl_model.specs.Settled.{closed}
 use Rattle.hl_model.specs.Sizes.{Sizes}
 use Rattle.hl_model.specs.Views.{slot_view}
 use Rattle.hl_history.specs.declared.view.Entry.{Entry}
@@ -22,7 +22,7 @@ use Rattle.hl_keeper.specs.Calls.{unless_stranger, stamp_at, is_known, is_behind
 use Rattle.hl_keeper.specs.Pages.{first_cell}
 use Rattle.hl_pass.specs.Stamps.{stamp_at as stamp_by}
 use Rattle.hl_pass.proofs.KnownLaws.{and_parts, view_is}
-use Rattle.hl_keeper.specs.Touches.{AreTouches, is_call}
+use Rattle.hl_keeper.specs.Touches.{is_call}
 use Rattle.hl_keeper.proofs.PassLaws.{store_lawful}
 use Rattle.hl_keeper.proofs.TouchLaws.{touches_rise}
 use Rattle.hl_pass.proofs.LookLaws.{viewed}
@@ -34,10 +34,8 @@ use Rattle.hl_laws.proofs.PageFacts.{head-le-flushed, flushed-le-safe_read_only}
 use Rattle.hl_images.specs.Entered.{newest_writes, AreEntered, LoadsWithin}
 use Rattle.hl_images.specs.Kept.{PassEnters}
 use Rattle.hl_images.proofs.CellLaws.{cell_of_place}
-use Rattle.hl_images.proofs.KeptLaws.{no_write, call_is, are_touches, riders_stay_entered, passes_stay_entered}
-use Rattle.hl_images.proofs.PlaceLaws.{every_place}
-use Rattle.hl_images.proofs.SealedLaws.{pending_stays_above}
-use Rattle.hl_images.proofs.WriterLaws.{newest_every, writes_both}
+use Rattle.hl_images.proofs.KeptLaws.{passes_stay_entered, riders_stay_entered, more_waits, no_more_waits, still_waits, waits_above}
+use Rattle.hl_images.proofs.WriterLaws.{writes_both}
 use Rattle.hl_memory.specs.Acts.{in_cell, IsWriteAt, AreActs, AreActsOf}
 use Rattle.hl_memory.specs.Memory.{IsOpen}
 use Rattle.hl_memory.specs.Keeping.{call_act, PassActs, ActsAreKept, ActsStand, CallsMeetView}
@@ -82,9 +80,6 @@ module _ (sizes : Sizes) where
       let lawful = store_lawful p a v fault in
       let same : (seen p).tail ≡ p.held.tail = (touches_rise p.slot p.held p.touches h.touches).2 in
       (p.slot, refl, h.newest, h.older, h.newest_is, omega (arith, lawful.2, same, h.sees))
-
-  more_waits : (a v : ℕ) (p : PassRecord) → newest_writes (p.touches ++ Write p.slot a v ∷ []) [] ≡ Write p.slot a v ∷ newest_writes p.touches []
-  more_waits a v p = writes_both p.touches (Write p.slot a v ∷ []) []
 
   stores : (a v : ℕ) (p : PassRecord) (acts : List Touch) → store_fault p a ≡ None → PassActs sizes p acts → PassActs sizes (with_store sizes a v p) (Stored a v ∷ acts)
   unfolding with_store
@@ -151,11 +146,7 @@ module _ (sizes : Sizes) where
   -- the touches of a pass and its step enter
   all_entered : (was now : ℕ) (list : List Step) (s : Step) (p : PassRecord) (acts : List Touch) → is_call s ≡ true → PassActs sizes p acts
       → AreActs sizes (call_act was now list (p.touches ++ s ∷ []) ∷ acts) (with_entry was now list (p.touches ++ s ∷ []) p.rider).calls []
-  all_entered was now list s p acts own h =
-      let kind = call_is s own in
-      let all = are_touches p.slot p.held p.touches h.enters.touches in
-      let waits : newest_writes (p.touches ++ s ∷ []) [] ≡ newest_writes p.touches [] = writes_both p.touches (s ∷ []) [] ∙ no_write s (newest_writes p.touches []) kind.0 in
-      subst (λ (l : List Step). AreActs sizes acts p.rider.calls l) (sym waits) h.entered
+  all_entered was now list s p acts own h = subst (λ (l : List Step). AreActs sizes acts p.rider.calls l) (sym (no_more_waits s p own)) h.entered
 
   -- an abandoned pass at the end
   ended : (whole : List Step) (p : PassRecord) (acts : List Touch) → 0 < sizes.page_size → IsAccepted sizes whole → slot_view sizes p.slot whole ≡ Some p.held → PassActs sizes p acts → AreActsOf sizes whole p.rider acts
@@ -165,9 +156,7 @@ module _ (sizes : Sizes) where
     entered = h.entered;
     frees = h.enters.frees;
     calls = h.enters.calls;
-    above = newest_every (λ (w : Step). (t a v : ℕ) → w ≡ Write t a v → safe_read_only whole ≤ a) p.touches []
-        (every_place (λ (w : Step). (t a v : ℕ) → w ≡ Write t a v → safe_read_only whole ≤ a) [] p.touches
-        (λ f x r is t a v same. pending_stays_above sizes whole p.slot p.held f r t a v some ok view (subst (AreTouches p.slot p.held) (is ∙ ap (λ (z : Step). f ++ z ∷ r) same) h.enters.touches))) tt;
+    above = waits_above sizes whole p some ok view h.enters.touches;
   }
 
   pub acts_are_kept : ActsAreKept sizes
@@ -214,11 +203,10 @@ module _ (sizes : Sizes) where
           opens = λ n x y. inr (h.opens (closed list) low.0 low.1);
         };
     call = λ was now list s p acts touch free some ok of h.
-        let waits : newest_writes p.touches [] ++ newest_writes (s ∷ []) [] ≡ newest_writes p.touches [] = ap (λ (l : List Step). newest_writes p.touches [] ++ l) (no_write s [] touch) ∙ append-nil (newest_writes p.touches []) in
         record {
           enters = (passes_stay_entered sizes).call was now list s p touch free some ok of h.enters;
           touches = ap (λ (l : List Touch). call_act was now list (s ∷ []) ∷ l) h.touches;
-          entered = subst (λ (l : List Step). AreActs sizes acts p.rider.calls l) (sym waits) h.entered;
+          entered = subst (λ (l : List Step). AreActs sizes acts p.rider.calls l) (sym (still_waits s p touch)) h.entered;
           opens = λ low x y. inl (h.opens low x y);
         };
     refused = λ was now list p acts some ok of h. record {

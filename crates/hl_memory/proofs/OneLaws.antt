@@ -1,8 +1,9 @@
 -- What all threads did is one trace, and the words and the images are its memory.
-use Rattle.std.proofs.Common.{◌≡◌, ℕ, zero, suc, ◌+◌, ◌*◌, ◌<◌, ◌≤◌, ◌⊎◌, Bool, true, false, List, [], ◌∷◌, ◌++◌, length, map, refl, ap, sym, ◌∙◌, ⊎_elim, subst, arith, append_assoc}
+use Rattle.std.proofs.Common.{◌≡◌, ℕ, zero, suc, ◌+◌, ◌*◌, ◌<◌, ◌⊎◌, Bool, true, false, List, [], ◌∷◌, ◌++◌, length, map, refl, ap, sym, ◌∙◌, ⊎_elim, subst, arith, append_assoc}
 use Rattle.std.specs.Prelude.{Option, Some, None, slice_get}
 use Rattle.std.specs.List.{AllByRecursion as Every, list_any, range_with_len}
 use Rattle.std.proofs.lemmas.List.{append-nil}
+use Rattle.std.proofs.lemmas.Option.{slice_get_past, slice_get_within}
 use Rattle.hl_model.specs.declared.step.Step.{Step}
 use Rattle.hl_model.specs.declared.step.Step.TheVariants.{Write}
 use Rattle.hl_model.specs.Offsets.{tail}
@@ -25,7 +26,7 @@ use Rattle.hl_images.specs.Entered.{newest_writes}
 use Rattle.hl_images.specs.Flushes.{HasFlushed}
 use Rattle.hl_images.proofs.ImageLaws.{flushed_by}
 use Rattle.hl_images.proofs.PlaceLaws.{every_both}
-use Rattle.hl_images.proofs.WordLaws.{calls_at, within}
+use Rattle.hl_images.proofs.WordLaws.{calls_at}
 use Rattle.hl_images.proofs.WriterLaws.{writes_both}
 use Rattle.hl_memory.specs.Acts.{is_of_pages, in_cell, in_cells, IsPut, IsWriteAt, IsZeroAt, AreActs, AreActsOf, IsHistory}
 use Rattle.hl_memory.specs.Memory.{AreOpen}
@@ -46,12 +47,6 @@ use Rattle.hl_memory.proofs.WrittenLaws.{stays}
 abbrev calls_of : Option RiderState → List Entry
 calls_of None = []
 calls_of (Some r) = r.calls
-
--- no rider lies beyond the last
-beyond : (xs : List RiderState) (i : ℕ) → length xs ≤ i → slice_get xs i ≡ None
-beyond [] i far = refl
-beyond (x ∷ xs) zero far = absurd (omega (arith, far))
-beyond (x ∷ xs) (suc i) far = beyond xs i (omega (arith, far))
 
 -- a write among some steps is one of their writes
 one_stays : (steps older : List Step) (w : Step) → newest_writes steps (w ∷ older) ≡ [] → ⊥
@@ -159,7 +154,7 @@ module _ (F : Type 0) (sizes : Sizes) (riders : List RiderState) (ending : Endin
               )
 
   history_is : (history : List TouchBy) × IsHistory sizes (ends.steps_cut ++ ending.journal) riders ends.ruled.rule.order.0 history × ((i : ℕ) → touches_of i history ≡ (chosen i).0)
-  history_is = histories_stand F sizes riders ending ends (λ i. (chosen i).0) (λ i r at. (chosen i).1.are r at) (λ i far. (chosen i).1.none (beyond riders i far))
+  history_is = histories_stand F sizes riders ending ends (λ i. (chosen i).0) (λ i r at. (chosen i).1.are r at) (λ i far. (chosen i).1.none (slice_get_past riders i far))
 
   abbrev history : List TouchBy
   history = history_is.0
@@ -295,7 +290,7 @@ module _ (F : Type 0) (sizes : Sizes) (riders : List RiderState) (ending : Endin
       let own = subst (λ (e : IsEnding sizes riders ending). IsHistory sizes (e.steps_cut ++ ending.journal) riders e.ruled.rule.order.0 history) (sym f.1) its in
       let l = loaded_at F sizes riders ending page k v image imaged page_some frames_some history own there in
       let o = subst (λ (e : IsEnding sizes riders ending). OpenThere sizes (e.steps_cut ++ ending.journal) views a l.before) f.1 l.is_open in
-      let inside : k < sizes.page_size = omega (arith, within image k v there, imaged.places) in
+      let inside : k < sizes.page_size = omega (arith, slice_get_within image k v there, imaged.places) in
       let none : NoneByThreads sizes is_thread a l.newer = λ front j act base w is puts.
       ⊎_elim
       (λ (low : is_thread j ≡ true).

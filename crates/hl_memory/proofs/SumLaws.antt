@@ -4,6 +4,7 @@ use Rattle.std.specs.Prelude.{Option, if◌then◌else◌}
 use Rattle.std.specs.List.{AllByRecursion as Every}
 use Rattle.std.proofs.lemmas.Bool.{eqb-false}
 use Rattle.std.proofs.lemmas.List.{append-nil, length-map}
+use Rattle.std.proofs.lemmas.Option.{slice_get_within}
 use Rattle.hl_model.specs.Sizes.{Sizes}
 use Rattle.hl_history.specs.declared.view.Entry.{Entry}
 use Rattle.hl_words.specs.declared.view.Touch.{Touch}
@@ -16,7 +17,6 @@ use Rattle.hl_words.proofs.LawProofs.{adds_since}
 use Rattle.hl_words.proofs.Orders.{there}
 use Rattle.hl_words.proofs.PastProofs.{touches_both}
 use Rattle.hl_images.specs.Writes.{CallsWriteNothing}
-use Rattle.hl_images.proofs.WordLaws.{within}
 use Rattle.hl_memory.specs.Acts.{in_cells}
 use Rattle.hl_memory.specs.Images.{ImagesAreSumsAnywhere}
 use Rattle.hl_memory.proofs.ActLaws.{cells_both, mapped_own}
@@ -97,7 +97,7 @@ theirs_stored sizes n (t ∷ history) h = (h.0, theirs_stored sizes n history h.
 pub images_are_sums_anywhere : (F : Type 0) → ImagesAreSumsAnywhere F
 images_are_sums_anywhere F sizes riders ending page k v image totals i page_some frames_some history its here long each =
     let a = page * sizes.page_size + k in
-    let inside : k < sizes.page_size = omega (arith, within image k v here, i.places) in
+    let inside : k < sizes.page_size = omega (arith, slice_get_within image k v here, i.places) in
     let m = images_are_memory F sizes riders ending page k v image i page_some frames_some history its here in
     let newer = m.0 in
     let before = m.1 in
@@ -109,7 +109,7 @@ images_are_sums_anywhere F sizes riders ending page k v image totals i page_some
     (m.2 ∙ ap (λ (l : List TouchBy). newer ++ l) is ∙ sym (append_assoc newer front (by_rider j (Changed b found x) ∷ base)))) in
     let added : (j s : ℕ) → slice_get totals j ≡ Some s → AddsUp a s (touches_of j before) =
     λ j s at.
-    let r = there riders j (omega (arith, within totals j s at, long)) in
+    let r = there riders j (omega (arith, slice_get_within totals j s at, long)) in
     ⊎_elim
     (λ (adds : AddsUp a s (touches_of j history)).
     adds_before r.0.calls a s (touches_of j newer) (touches_of j before) (zeroed F sizes riders ending page k image i page_some frames_some inside history newer before its m.2 m.4 j r.0 r.1)

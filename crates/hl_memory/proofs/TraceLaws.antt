@@ -24,12 +24,10 @@ use Rattle.hl_laws.proofs.SettledLaws.{done_greatest-quiet}
 use Rattle.hl_laws.proofs.ViewLaws.{is_protected-push}
 use Rattle.hl_laws.proofs.WordLaws.{seen_tail-le}
 use Rattle.hl_history.specs.Lists.{IsOf}
-use Rattle.hl_words.specs.declared.view.Known.{Known}
-use Rattle.hl_words.specs.declared.view.Touch.{Touch}
-use Rattle.hl_words.specs.declared.view.Touch.TheVariants.{Stored as StoredIn, Loaded as LoadedFrom, Changed as ChangedIn, Met as WasTold}
+use Rattle.hl_words.specs.declared.view.Touch.TheVariants.{Stored as StoredIn, Loaded as LoadedFrom, Changed as ChangedIn}
 use Rattle.hl_words.specs.declared.which.Which.TheVariants.{SafeReadOnly}
 use Rattle.hl_words.specs.States.{RiderState, new_rider, with_view}
-use Rattle.hl_words.specs.Views.{told, with_loaded}
+use Rattle.hl_words.specs.Views.{with_loaded}
 use Rattle.hl_keeper.specs.Calls.{slot_after}
 use Rattle.hl_keeper.specs.Passes.{PassRecord, cell_at, seen, store_fault, load_fault, with_store, with_change, with_load, with_look, with_news, with_rider, new_pass}
 use Rattle.hl_keeper.specs.Touches.{is_call}
@@ -40,7 +38,7 @@ use Rattle.hl_images.specs.Entered.{is_touch}
 use Rattle.hl_images.proofs.KeptLaws.{are_touches}
 use Rattle.hl_memory.specs.declared.act.Act.{Act}
 use Rattle.hl_memory.specs.declared.act.Act.TheVariants.{Stored, Loaded, Changed, Met}
-use Rattle.hl_memory.specs.Acts.{is_of_pages}
+use Rattle.hl_memory.specs.Acts.{is_of_pages, NoneOfPages}
 use Rattle.hl_memory.specs.Keeping.{PassActs}
 use Rattle.hl_memory.specs.Traces.{moves_slot, tail_met, address_of, by_address, placed_by, places, trace, RiderTraces, PassTraces, RiderDoes, PassDoes}
 use Rattle.hl_memory.proofs.KeepLaws.{load_lawful, pass_low, acts_are_kept}
@@ -215,65 +213,42 @@ module _ (sizes : Sizes) where
       own : (t : ℕ) → cond (enters t (Acquire t)) true (cond (leaves t (Acquire t)) false (is_protected t list)) ≡ true
       own t = ap (λ (b : Bool). cond b true (cond (leaves t (Acquire t)) false (is_protected t list))) (eq-eqb t t refl)
 
+  -- a pass with the same view, whose rider's slot met no other list
+  module _ (p q : PassRecord) (h : PassTraces sizes p) (held : q.held ≡ p.held) (met : tail_met sizes q.rider.calls ≡ tail_met sizes p.rider.calls) where
+    traced : PassActs sizes q (by_address sizes q.rider.view.touches q.rider.calls) → NoneOfPages q.rider.calls → PassTraces sizes q
+    traced acts pages = record {
+      acts = acts;
+      pages = pages;
+      page_some = h.page_some;
+      frames_some = h.frames_some;
+      list = h.list;
+      accepted = h.accepted;
+      met = met ∙ h.met;
+      sees = omega (arith, h.sees, ap (λ (v : View). v.tail) held);
+      head = omega (arith, h.head, ap (λ (v : View). v.head) held);
+      read_only = omega (arith, h.read_only, ap (λ (v : View). v.read_only) held);
+    }
+
   pub stores : (a v : ℕ) (p : PassRecord) → store_fault p a ≡ None → PassTraces sizes p → PassDoes sizes (Stored a v ∷ []) p.rider (with_store sizes a v p)
   unfolding with_store
   stores a v p fault h =
       let here = store_found a p fault h in
-      let acts = by_address sizes p.rider.view.touches p.rider.calls in (
-        record {
-          acts = subst (λ (x : ℕ). PassActs sizes (with_store sizes a v p) (StoredIn x v ∷ acts)) (sym here) ((acts_are_kept sizes).stores a v p acts fault h.acts);
-          pages = h.pages;
-          page_some = h.page_some;
-          frames_some = h.frames_some;
-          list = h.list;
-          accepted = h.accepted;
-          met = h.met;
-          sees = h.sees;
-          head = h.head;
-          read_only = h.read_only;
-        },
-        ap (λ (x : ℕ). Stored x v ∷ trace sizes p.rider) here,
-      )
+      let acts = by_address sizes p.rider.view.touches p.rider.calls in
+      (traced p (with_store sizes a v p) h refl refl (subst (λ (x : ℕ). PassActs sizes (with_store sizes a v p) (StoredIn x v ∷ acts)) (sym here) ((acts_are_kept sizes).stores a v p acts fault h.acts)) h.pages, ap (λ (x : ℕ). Stored x v ∷ trace sizes p.rider) here)
 
   pub changes : (a found v : ℕ) (p : PassRecord) → store_fault p a ≡ None → PassTraces sizes p → PassDoes sizes (Changed a found v ∷ []) p.rider (with_change sizes a found v p)
   unfolding with_change
   changes a found v p fault h =
       let here = store_found a p fault h in
-      let acts = by_address sizes p.rider.view.touches p.rider.calls in (
-        record {
-          acts = subst (λ (x : ℕ). PassActs sizes (with_change sizes a found v p) (ChangedIn x found v ∷ acts)) (sym here) ((acts_are_kept sizes).changes a found v p acts fault h.acts);
-          pages = h.pages;
-          page_some = h.page_some;
-          frames_some = h.frames_some;
-          list = h.list;
-          accepted = h.accepted;
-          met = h.met;
-          sees = h.sees;
-          head = h.head;
-          read_only = h.read_only;
-        },
-        ap (λ (x : ℕ). Changed x found v ∷ trace sizes p.rider) here,
-      )
+      let acts = by_address sizes p.rider.view.touches p.rider.calls in
+      (traced p (with_change sizes a found v p) h refl refl (subst (λ (x : ℕ). PassActs sizes (with_change sizes a found v p) (ChangedIn x found v ∷ acts)) (sym here) ((acts_are_kept sizes).changes a found v p acts fault h.acts)) h.pages, ap (λ (x : ℕ). Changed x found v ∷ trace sizes p.rider) here)
 
   -- a load at an address that is found
   loaded : (a v : ℕ) (p : PassRecord) → address_of sizes (cell_at sizes a) (tail_met sizes p.rider.calls) ≡ a → PassTraces sizes p → PassActs sizes (with_load sizes a v p) (LoadedFrom a v ∷ by_address sizes p.rider.view.touches p.rider.calls) → PassDoes sizes (Loaded a v ∷ []) p.rider (with_load sizes a v p)
   unfolding with_load
   loaded a v p here h are =
-      let acts = by_address sizes p.rider.view.touches p.rider.calls in (
-        record {
-          acts = subst (λ (x : ℕ). PassActs sizes (with_load sizes a v p) (LoadedFrom x v ∷ acts)) (sym here) are;
-          pages = h.pages;
-          page_some = h.page_some;
-          frames_some = h.frames_some;
-          list = h.list;
-          accepted = h.accepted;
-          met = h.met;
-          sees = h.sees;
-          head = h.head;
-          read_only = h.read_only;
-        },
-        ap (λ (x : ℕ). Loaded x v ∷ trace sizes p.rider) here,
-      )
+      let acts = by_address sizes p.rider.view.touches p.rider.calls in
+      (traced p (with_load sizes a v p) h refl refl (subst (λ (x : ℕ). PassActs sizes (with_load sizes a v p) (LoadedFrom x v ∷ acts)) (sym here) are) h.pages, ap (λ (x : ℕ). Loaded x v ∷ trace sizes p.rider) here)
 
   pub loads : (a v : ℕ) (p : PassRecord) → load_fault p a ≡ None → PassTraces sizes p → PassDoes sizes (Loaded a v ∷ []) p.rider (with_load sizes a v p)
   loads a v p fault h = loaded a v p (load_found a p fault h) h ((acts_are_kept sizes).loads a v p (by_address sizes p.rider.view.touches p.rider.calls) fault h.acts)
@@ -285,80 +260,14 @@ module _ (sizes : Sizes) where
   -- looks are no acts
   pub looks : (read_only head : ℕ) (p : PassRecord) → PassTraces sizes p → PassDoes sizes [] p.rider (with_look read_only head p)
   unfolding with_look
-  looks read_only head p h = (
-    record {
-      acts = (acts_are_kept sizes).looks read_only head p (by_address sizes p.rider.view.touches p.rider.calls) h.acts;
-      pages = h.pages;
-      page_some = h.page_some;
-      frames_some = h.frames_some;
-      list = h.list;
-      accepted = h.accepted;
-      met = h.met;
-      sees = h.sees;
-      head = h.head;
-      read_only = h.read_only;
-    },
-    refl,
-  )
+  looks read_only head p h = (traced p (with_look read_only head p) h refl refl ((acts_are_kept sizes).looks read_only head p (by_address sizes p.rider.view.touches p.rider.calls) h.acts) h.pages, refl)
 
   pub news : (read_only head ended : ℕ) (p : PassRecord) → PassTraces sizes p → PassDoes sizes [] p.rider (with_news read_only head ended p)
   unfolding with_news
-  news read_only head ended p h = (
-    record {
-      acts = (acts_are_kept sizes).news read_only head ended p (by_address sizes p.rider.view.touches p.rider.calls) h.acts;
-      pages = h.pages;
-      page_some = h.page_some;
-      frames_some = h.frames_some;
-      list = h.list;
-      accepted = h.accepted;
-      met = h.met;
-      sees = h.sees;
-      head = h.head;
-      read_only = h.read_only;
-    },
-    refl,
-  )
+  news read_only head ended p h = (traced p (with_news read_only head ended p) h refl refl ((acts_are_kept sizes).news read_only head ended p (by_address sizes p.rider.view.touches p.rider.calls) h.acts) h.pages, refl)
 
   pub safe_looks : (x : ℕ) (p : PassRecord) → PassTraces sizes p → PassDoes sizes [] p.rider (with_rider (with_view (with_loaded SafeReadOnly x p.rider.view) p.rider) p)
-  safe_looks x p h = (
-    record {
-      acts = (acts_are_kept sizes).safe_looks x p (by_address sizes p.rider.view.touches p.rider.calls) h.acts;
-      pages = h.pages;
-      page_some = h.page_some;
-      frames_some = h.frames_some;
-      list = h.list;
-      accepted = h.accepted;
-      met = h.met;
-      sees = h.sees;
-      head = h.head;
-      read_only = h.read_only;
-    },
-    refl,
-  )
-
-  -- a pass that is told what another had done does nothing by it
-  pub told_pass : (past : Known) (p : PassRecord) → PassTraces sizes p → PassDoes sizes [] p.rider (with_rider (with_view (told past p.rider.view) p.rider) p)
-  told_pass past p h =
-      let e = h.acts.enters in (
-        record {
-          acts = record {
-            enters = record { entered = e.entered; frees = e.frees; calls = e.calls; within = ((λ d v same page_some frames_some. absurd (cc same)), e.within); touches = e.touches; newest = e.newest; older = e.older; newest_is = e.newest_is; sees = e.sees };
-            touches = ap (λ (l : List Touch). WasTold past.name (length past.touches) ∷ l) h.acts.touches;
-            entered = h.acts.entered;
-            opens = h.acts.opens;
-          };
-          pages = h.pages;
-          page_some = h.page_some;
-          frames_some = h.frames_some;
-          list = h.list;
-          accepted = h.accepted;
-          met = h.met;
-          sees = h.sees;
-          head = h.head;
-          read_only = h.read_only;
-        },
-        refl,
-      )
+  safe_looks x p h = (traced p _ h refl refl ((acts_are_kept sizes).safe_looks x p (by_address sizes p.rider.view.touches p.rider.calls) h.acts) h.pages, refl)
 
   -- a refresh or an allocation, after which the pass sees no offset below those that it saw
   pub goes_on : (was now : ℕ) (list : List Step) (s : Step) (epoch : ℕ) (view : View) (p : PassRecord) → is_call s ≡ true → moves_slot s ≡ true → view.tail ≤ tail sizes (list ++ (p.touches ++ s ∷ [])) → IsAccepted sizes list → IsAccepted sizes (list ++ (p.touches ++ s ∷ []))
@@ -391,18 +300,8 @@ module _ (sizes : Sizes) where
   pub call : (was now : ℕ) (list : List Step) (s : Step) (p : PassRecord) → is_touch s ≡ false → clean_of s ≡ None → moves_slot s ≡ false → is_of_pages s ≡ false → IsAccepted sizes (list ++ s ∷ []) → IsOf list p.rider.calls → PassTraces sizes p
       → PassDoes sizes (Met (length list + 1) ∷ []) p.rider (with_rider (with_entry was now list (s ∷ []) p.rider) p)
   call was now list s p touch free stays uncleaned ok of h = (
-    record {
-      acts = (acts_are_kept sizes).call was now list s p (by_address sizes p.rider.view.touches p.rider.calls) touch free h.page_some ok of h.acts;
-      pages = (ap (λ (b : Bool). b || false) uncleaned, h.pages);
-      page_some = h.page_some;
-      frames_some = h.frames_some;
-      list = h.list;
-      accepted = h.accepted;
-      met = ap (λ (b : Bool). if b || false then tail sizes (list ++ s ∷ []) else tail_met sizes p.rider.calls) stays ∙ h.met;
-      sees = h.sees;
-      head = h.head;
-      read_only = h.read_only;
-    },
+    traced p (with_rider (with_entry was now list (s ∷ []) p.rider) p) h refl (ap (λ (b : Bool). if b || false then tail sizes (list ++ s ∷ []) else tail_met sizes p.rider.calls) stays)
+        ((acts_are_kept sizes).call was now list s p (by_address sizes p.rider.view.touches p.rider.calls) touch free h.page_some ok of h.acts) (ap (λ (b : Bool). b || false) uncleaned, h.pages),
     ap (λ (l : List Act). (l ++ Met (length list + 1) ∷ []) ++ trace sizes p.rider) (quiet_places sizes list s stays),
   )
 
@@ -410,18 +309,7 @@ module _ (sizes : Sizes) where
   pub refused : (was now : ℕ) (list : List Step) (p : PassRecord) → IsAccepted sizes list → IsOf list p.rider.calls → PassTraces sizes p
       → PassDoes sizes (Met (length list + 0) ∷ []) p.rider (with_rider (with_entry was now list [] p.rider) p)
   refused was now list p ok of h = (
-    record {
-      acts = (acts_are_kept sizes).refused was now list p (by_address sizes p.rider.view.touches p.rider.calls) h.page_some ok of h.acts;
-      pages = (refl, h.pages);
-      page_some = h.page_some;
-      frames_some = h.frames_some;
-      list = h.list;
-      accepted = h.accepted;
-      met = h.met;
-      sees = h.sees;
-      head = h.head;
-      read_only = h.read_only;
-    },
+    traced p (with_rider (with_entry was now list [] p.rider) p) h refl refl ((acts_are_kept sizes).refused was now list p (by_address sizes p.rider.view.touches p.rider.calls) h.page_some ok of h.acts) (refl, h.pages),
     refl,
   )
 

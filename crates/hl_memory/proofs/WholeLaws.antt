@@ -1,7 +1,7 @@
 -- What a thread that loads a record's words has.
 use Rattle.std.proofs.Common.{◌≡◌, ◌≢◌, ℕ, zero, suc, ◌+◌, ◌-◌, List, [], ◌∷◌, ◌++◌, length, Some, slice_get, refl, ap, sym, ◌∙◌, ⊎_elim, arith, append_assoc}
 use Rattle.std.proofs.lemmas.Bool.{cases_eq}
-use Rattle.hl_images.proofs.WordLaws.{within}
+use Rattle.std.proofs.lemmas.Option.{slice_get_within}
 use Rattle.hl_memory.specs.declared.act.Act.{Act}
 use Rattle.hl_memory.specs.declared.act.Act.TheVariants.{Loaded}
 use Rattle.hl_memory.specs.OneTrace.{ActBy, by_thread, acts_by}
@@ -92,5 +92,5 @@ records_are_whole all records one appends i k j x r words later between base at_
         let first = among j all (later ++ f.0) load (f.1 ++ (between ++ last ∷ base)) parts in
         let second = among j first.before (f.1 ++ between) last base (first.own_are ∙ sym (append_assoc f.1 between (last ∷ base))) in
         let whole = first.all_are ∙ ap (λ (z : List ActBy). first.newer ++ by_thread j load ∷ z) second.all_are in
-        let few = within words l y at_y in
+        let few = slice_get_within words l y at_y in
         records_are_read all records one appends i k m l v r at_r (omega (arith, long, some)) (omega (arith, few)) at_v first.newer second.newer second.before j j x y whole found
