@@ -3,6 +3,7 @@ use Rattle.std.proofs.Common.{◌≡◌, ◌≢◌, ℕ, zero, suc, ◌+◌, ◌
 use Rattle.std.specs.Prelude.{◌==◌, if◌then◌else◌}
 use Rattle.std.specs.List.{AllByRecursion as Every, range_with_len}
 use Rattle.std.proofs.lemmas.Bool.{cases_eq, cases_lt, eq-eqb, ne_eqb, le-ltb, lt-ltb}
+use Rattle.std.proofs.lemmas.Option.{slice_get_within}
 use Rattle.hl_model.specs.declared.fault.Fault.{Fault}
 use Rattle.hl_model.specs.Sizes.{Sizes, AreInRange}
 use Rattle.hl_words.specs.States.{RiderState}
@@ -21,7 +22,7 @@ use Rattle.hl.specs.LastSession.{AreFinished, Finishing, IsUnfinished}
 use Rattle.hl.specs.Openings.{opened_as}
 use Rattle.hl.specs.Sessions.{SessionState, without_crew}
 use Rattle.hl.specs.Threads.{FinishedTrace, HoldsTrace}
-use Rattle.hl.proofs.ThreadLaws.{within, count_is, trace_of_all, held_of_all, stood_acts, thread_traces, crew_serves, thread_acts}
+use Rattle.hl.proofs.ThreadLaws.{count_is, trace_of_all, held_of_all, stood_acts, thread_traces, crew_serves, thread_acts}
 
 -- A trace in which the threads have other numbers is the same trace
 module _ (number : ℕ → ℕ) where
@@ -89,9 +90,7 @@ last_at [] y = refl
 last_at (z ∷ xs) y = last_at xs y
 
 same_at : {X : Type 0} (xs : List X) (i : ℕ) (x y : X) → slice_get xs i ≡ Some x → slice_get xs i ≡ Some y → x ≡ y
-same_at [] i x y e f = absurd (cc e)
-same_at (z ∷ xs) zero x y e f = let first : z ≡ x = cc e in let second : z ≡ y = cc f in sym first ∙ second
-same_at (z ∷ xs) (suc i) x y e f = same_at xs i x y e f
+same_at xs i x y e f = let same : Some x ≡ Some y = sym e ∙ f in cc same
 
 -- who is a thread: each of the first so many, and the last one
 abbrev who : ℕ → ℕ → ℕ → Bool
@@ -159,7 +158,7 @@ module _ {Out : Type 0} (F : Type 0) (o : Opening Sizes) (cuts : Cuts) (Returns 
   crew : (i : ℕ) (q : RiderState) → who (length finished.outs.items) r.count i ≡ false → slice_get (r.riders ++ r.finish.last ∷ []) i ≡ Some q → Serves o.params q × PlacesNone o.params q × FlushesTaken Took o.params q
   crew i q other at =
       let is = who_not (length finished.outs.items) r.count i other in
-      let inside : i < length r.riders = omega (arith, within (r.riders ++ r.finish.last ∷ []) i q at, length-append r.riders (r.finish.last ∷ []), is.1, r.returned.back) in
+      let inside : i < length r.riders = omega (arith, slice_get_within (r.riders ++ r.finish.last ∷ []) i q at, length-append r.riders (r.finish.last ∷ []), is.1, r.returned.back) in
       crew_serves F Returns Took (opened_as o) true r.count finished.outs.items r.riders r.returned i q is.0 (front_at r.riders r.finish.last i q inside at)
 
   of_all : HasOneTrace o.params (r.riders ++ r.finish.last ∷ []) finished.ending r.finish.ending (who (length finished.outs.items) r.count)
@@ -189,7 +188,7 @@ module _ {Out : Type 0} (F : Type 0) (o : Opening Sizes) (cuts : Cuts) (Returns 
     all = map (λ t. by_thread (number_of (length finished.outs.items) t.thread) t.act) of_all.all;
     one = numbered_one (number_of (length finished.outs.items)) of_all.all of_all.one;
     each = λ i out at. thread_acts F Returns Took (opened_as o) true r.count finished.outs.items r.riders r.returned i out (acts_by i (map (λ t. by_thread (number_of (length finished.outs.items) t.thread) t.act) of_all.all)) at
-        (λ q there. thread_own i q (within finished.outs.items i out at) there);
+        (λ q there. thread_own i q (slice_get_within finished.outs.items i out at) there);
     finish = stood_acts F (opened_as o) (without_crew cuts) true (Finishing Finishes) r.count r.finish.last finished.last (acts_by (length finished.outs.items) (map (λ t. by_thread (number_of (length finished.outs.items) t.thread) t.act) of_all.all)) r.finish.finish last_own;
     theirs = most (length finished.outs.items) of_all.all;
     holds = record {

@@ -1,9 +1,11 @@
 -- What the threads of a log did is one trace.
-use Rattle.std.proofs.Common.{◌≡◌, ◌≢◌, ℕ, zero, suc, ◌*◌, ◌<◌, ◌≤◌, Bool, true, false, List, [], ◌∷◌, ◌++◌, length, map, Some, Ok, Err, Result, MatchResult, Vec, Global, slice_get, ltb, ltb-true, ltb-false, refl, ap, sym, ◌∙◌, subst, arith}
+use Rattle.std.proofs.Common.{None, ⊎_elim, ◌≡◌, ◌≢◌, ℕ, zero, suc, ◌*◌, ◌<◌, ◌≤◌, Bool, true, false, List, [], ◌∷◌, ◌++◌, length, map, Some, Ok, Err, Result, MatchResult, Vec, Global, slice_get, ltb, ltb-true, ltb-false, refl, ap, sym, ◌∙◌, subst, arith}
 use Rattle.std.specs.Prelude.{◌||◌, drop, slice_index_or}
 use Rattle.std.specs.List.{AllByRecursion as Every, list_any}
 use native.Mathlib.Nat.{lt_of_mul-lt-mul_right}
 use Rattle.std.proofs.lemmas.Bool.{lt-ltb}
+use Rattle.std.proofs.lemmas.List.{length-map}
+use Rattle.std.proofs.lemmas.Option.{get_or_from_slice_get, slice_get_cases, slice_get-get_or, slice_get_within}
 use Rattle.hl_model.specs.declared.fault.Fault.{Fault}
 use Rattle.hl_model.specs.declared.fault.Fault.TheVariants.{Stranger}
 use Rattle.hl_model.specs.declared.step.Step.{Step}
@@ -35,23 +37,6 @@ use Rattle.hl.specs.Sessions.{Beside, SessionState, beside_crew}
 use Rattle.hl.specs.Threads.{ThreadActs, HoldsTrace, AreOneTrace, ThreadsAreOne, HaveOneTrace}
 use Rattle.hl.proofs.EvictedLaws.{flushed_by_one}
 
--- there is one at each place
-pub there_is : {X : Type 0} (xs : List X) (i : ℕ) → i < length xs → (x : X) × (slice_get xs i ≡ Some x)
-there_is [] i less = absurd (omega (arith, less))
-there_is (x ∷ xs) zero less = (x, refl)
-there_is (x ∷ xs) (suc i) less = there_is xs i (omega (arith, less))
-
-pub within : {X : Type 0} (xs : List X) (i : ℕ) (x : X) → slice_get xs i ≡ Some x → i < length xs
-within [] i x e = absurd (cc e)
-within (y ∷ xs) zero x e = omega arith
-within (y ∷ xs) (suc i) x e = omega (arith, within xs i x e)
-
--- the one that is read
-is_read : {X : Type 0} (xs : List X) (i : ℕ) (x d : X) → slice_get xs i ≡ Some x → slice_index_or xs i d ≡ x
-is_read [] i x d e = absurd (cc e)
-is_read (y ∷ xs) zero x d e = cc e
-is_read (y ∷ xs) (suc i) x d e = is_read xs i x d e
-
 answered_at : {X E : Type 0} (xs : List X) (i : ℕ) (x : X) (d : Result X E) → slice_get xs i ≡ Some x → slice_index_or (map (λ y. Ok y) xs) i d ≡ Ok x
 answered_at [] i x d e = absurd (cc e)
 answered_at {X} {E} (y ∷ xs) zero x d e = let same : y ≡ x = cc e in ap (λ (z : X). Ok z) same
@@ -60,10 +45,6 @@ answered_at (y ∷ xs) (suc i) x d e = answered_at xs i x d e
 -- values as results
 abbrev oks : {Out : Type 0} → List Out → List (Result Out Fault)
 oks outs = map (λ out. Ok out) outs
-
-long_as : {Out : Type 0} (outs : List Out) → length (oks outs) ≡ length outs
-long_as [] = refl
-long_as (out ∷ outs) = ap suc (long_as outs)
 
 -- what holds of all from a place on
 from_on : (P : RiderState → Type 0) (n : ℕ) (xs : List RiderState) → Every P (drop n xs) → (i : ℕ) (x : RiderState) → n ≤ i → slice_get xs i ≡ Some x → P x
@@ -171,16 +152,16 @@ stood_acts F log beside may_cut Returns name last out own s here =
 module _ {Out : Type 0} (F : Type 0) (Returns : ℕ → SessionState → SessionState → Out → Type 0) (Took : ℕ → List ℕ → Type 0) (log : DomainState) (may_cut : Bool) (count : ℕ) (outs : List Out) (riders : List RiderState)
     (r : CountReturned F log may_cut Returns Took count (map (λ out. Ok out) outs) riders) where
   pub count_is : length (oks outs) ≡ length outs
-  count_is = long_as outs
+  count_is = length-map outs (λ out. Ok out)
 
   stood : (i : ℕ) (out : Out) → slice_get outs i ≡ Some out → Stood F log beside_crew may_cut (Returns i) (new_rider i) (Ok (rider_at riders i)) out
   stood i out at =
-      subst (λ (x : Result Out Fault). Tells F log beside_crew may_cut (Returns i) (new_rider i) (rider_at riders i) x) (answered_at outs i out (Ok out) at) (r.each i (Ok out) (omega (arith, within outs i out at, count_is)))
+      subst (λ (x : Result Out Fault). Tells F log beside_crew may_cut (Returns i) (new_rider i) (rider_at riders i) x) (answered_at outs i out (Ok out) at) (r.each i (Ok out) (omega (arith, slice_get_within outs i out at, count_is)))
 
   pub thread_traces : (i : ℕ) (q : RiderState) → i < length outs → slice_get riders i ≡ Some q → RiderTraces log.sizes q
   thread_traces i q less at =
-      let o = there_is outs i less in
-      subst (RiderTraces log.sizes) (is_read riders i q (new_rider i) at) (stood i o.0 o.1).traces
+      ⊎_elim (λ (o : (out : Out) × (i < length outs) × (slice_get outs i ≡ Some out) × (slice_index_or outs i out ≡ out)). subst (RiderTraces log.sizes) (get_or_from_slice_get riders i q (new_rider i) at) (stood i o.0 o.2).traces)
+      (λ (none : (length outs ≤ i) × (slice_get outs i ≡ None)). absurd (omega (arith, less, none.0))) (slice_get_cases outs i).1
 
   pub crew_serves : (i : ℕ) (q : RiderState) → length outs ≤ i → slice_get riders i ≡ Some q → Serves log.sizes q × PlacesNone log.sizes q × FlushesTaken Took log.sizes q
   crew_serves i q far at =
@@ -196,8 +177,8 @@ module _ {Out : Type 0} (F : Type 0) (Returns : ℕ → SessionState → Session
 
   pub thread_acts : (i : ℕ) (out : Out) (own : List Act) → slice_get outs i ≡ Some out → ((q : RiderState) → slice_get riders i ≡ Some q → own ≡ trace log.sizes q) → ThreadActs (Returns i) own out
   thread_acts i out own at here =
-      let q = there_is riders i (omega (arith, within outs i out at, r.back, r.threads, count_is)) in
-      stood_acts F log beside_crew may_cut (Returns i) i (rider_at riders i) out own (stood i out at) (here q.0 q.1 ∙ ap (trace log.sizes) (sym (is_read riders i q.0 (new_rider i) q.1)))
+      let there = slice_get-get_or riders i (new_rider i) (omega (arith, slice_get_within outs i out at, r.back, r.threads, count_is)) in
+      stood_acts F log beside_crew may_cut (Returns i) i (rider_at riders i) out own (stood i out at) (here (rider_at riders i) there)
 
 -- Where these are all riders of a log that was closed
 module _ {Out : Type 0} (F : Type 0) (Returns : ℕ → SessionState → SessionState → Out → Type 0) (Took : ℕ → List ℕ → Type 0) (log : DomainState) (may_cut : Bool) (outs : List Out) (riders : List RiderState) (ending : EndingState F)
@@ -216,7 +197,7 @@ module _ {Out : Type 0} (F : Type 0) (Returns : ℕ → SessionState → Session
   are_one = record {
     all = of_all.all;
     one = of_all.one;
-    each = λ i out at. thread_acts F Returns Took log may_cut log.riders outs riders r i out (acts_by i of_all.all) at (λ q there. of_all.each i q (lt-ltb i (length outs) (within outs i out at)) there);
+    each = λ i out at. thread_acts F Returns Took log may_cut log.riders outs riders r i out (acts_by i of_all.all) at (λ q there. of_all.each i q (lt-ltb i (length outs) (slice_get_within outs i out at)) there);
     theirs = every_weaker (λ (t : ActBy). ltb t.thread (length outs) ≡ true) (λ (t : ActBy). t.thread < length outs) of_all.all (λ t first. ltb-true t.thread (length outs) first) of_all.theirs;
     holds = held_of_all F log.sizes Took riders ending ends (λ i. ltb i (length outs)) page_some frames_some threads crew;
   }

@@ -1,7 +1,11 @@
 -- What follows from one trace for common wants.
-use Rattle.std.proofs.Common.{◌≡◌, ℕ, zero, suc, ◌<◌, ◌≤◌, Bool, true, ltb, le-ltb, List, [], ◌∷◌, ◌++◌, Option, Some, None, slice_get, length, map, refl, ap, sym, ◌∙◌, subst, arith}
+use Rattle.std.proofs.Common.{⊎_elim, ◌≡◌, ℕ, ◌<◌, ◌≤◌, Bool, true, ltb, le-ltb, List, [], ◌∷◌, ◌++◌, Option, Some, None, slice_get, length, map, refl, ap, sym, ◌∙◌, subst}
+use Rattle.std.specs.Prelude.{slice_index_or}
 use Rattle.std.specs.List.{AllByRecursion as Every}
 use Rattle.std.proofs.lemmas.Bool.{lt-ltb}
+use Rattle.std.proofs.lemmas.List.{length-map}
+use Rattle.std.proofs.lemmas.Option.{slice_get_cases}
+use Rattle.hl_images.proofs.WordLaws.{mapped_at}
 use Rattle.hl_words.proofs.Cut.{every_weaker}
 use Rattle.hl_memory.specs.declared.act.Act.{Act}
 use Rattle.hl_memory.specs.Counters.{AddsAt}
@@ -22,19 +26,10 @@ met_adds a total (act ∷ left) own met adds =
     let rest = met_adds a total left own met.1 adds in
     subst (λ (x : Act). AddsAt a total (x ∷ (left ++ own))) (sym met.0.1) rest
 
-mapped_long : {X : Type 0} (f : X → ℕ) (xs : List X) → length (map f xs) ≡ length xs
-mapped_long f [] = refl
-mapped_long f (x ∷ xs) = ap suc (mapped_long f xs)
-
-mapped_at : {X : Type 0} (f : X → ℕ) (xs : List X) (i n : ℕ) → slice_get (map f xs) i ≡ Some n → (x : X) × (slice_get xs i ≡ Some x) × (f x ≡ n)
-mapped_at f [] i n at = absurd (cc at)
-mapped_at f (x ∷ xs) zero n at = (x, refl, (let e = at in cc))
-mapped_at f (x ∷ xs) (suc i) n at = mapped_at f xs i n at
-
 pub counters_end_as_sums : {Out : Type 0} (Returns : ℕ → SessionState → SessionState → Out → Type 0) → CountersEndAsSums Returns
 counters_end_as_sums {Out} Returns all outs a total one theirs each adds =
     counters_are_sums all a (map total outs) one
-    (subst (λ n. Every (λ (t : ActBy). t.thread < n) all) (sym (mapped_long total outs)) theirs)
+    (subst (λ n. Every (λ (t : ActBy). t.thread < n) all) (sym (length-map outs total)) theirs)
     (λ i n at.
     let x = mapped_at total outs i n at in
     let t = each i x.0 x.1 in
@@ -46,9 +41,7 @@ met_changes : (left own : List Act) → AreMet left → changes (left ++ own) �
 met_changes left own met = changes_both left own ∙ ap (λ (l : List Act). l ++ changes own) (changes_met left met)
 
 beyond_none : {X : Type 0} (xs : List X) (i : ℕ) → slice_get xs i ≡ None → length xs ≤ i
-beyond_none [] i at = omega arith
-beyond_none (x ∷ xs) zero at = absurd (cc at)
-beyond_none (x ∷ xs) (suc i) at = omega (arith, beyond_none xs i at)
+beyond_none {X} xs i at = ⊎_elim (λ (o : (x : X) × (i < length xs) × (slice_get xs i ≡ Some x) × (slice_index_or xs i x ≡ x)). let no : None ≡ Some o.0 = sym at ∙ o.2 in absurd (cc no)) (λ (far : (length xs ≤ i) × (slice_get xs i ≡ None)). far.0) (slice_get_cases xs i).1
 
 module _ {Out : Type 0} (Returns : ℕ → SessionState → SessionState → Out → Type 0) (ok : List ℕ → Bool) (all : List ActBy) (outs : List Out) (entries : Out → List (ℕ × List ℕ)) (theirs : Every (λ (t : ActBy). t.thread < length outs) all)
     (each : (i : ℕ) (out : Out) → slice_get outs i ≡ Some out → ThreadActs (Returns i) (acts_by i all) out)
