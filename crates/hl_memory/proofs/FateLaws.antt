@@ -12,7 +12,7 @@ use Rattle.hl_history.specs.declared.view.Entry.{Entry}
 use Rattle.hl_history.specs.Lists.{Begins, entry, left_by, IsOf, IsOneList}
 use Rattle.hl_words.specs.declared.view.Extent.{Extent}
 use Rattle.hl_words.specs.declared.view.Touch.{Touch}
-use Rattle.hl_words.specs.declared.view.Touch.TheVariants.{Stored, Loaded, Changed, Called}
+use Rattle.hl_words.specs.declared.view.Touch.TheVariants.{Stored, Changed, Called}
 use Rattle.hl_words.specs.Rule.{TouchBy, by_rider, IsSerial, touches_of, HasOneOrder}
 use Rattle.hl_words.specs.States.{RiderState, AreTied}
 use Rattle.hl_words.proofs.CallOrder.{IsUpTo, met_all}
@@ -55,10 +55,7 @@ newest_call sizes (Called met left ∷ before) e older h = (
   h.0,
   λ f m l r is. omega (arith, ap length is, length-append f (Called m l ∷ r), acts_long sizes before),
 )
-newest_call sizes (Stored d v ∷ before) e older h = let n = newest_call sizes before e older h in (Stored d v ∷ n.0, n.1, n.2, n.3, ap (λ (l : List Touch). Stored d v ∷ l) n.4, n.5, n.6, still_last sizes (Stored (cell_at sizes d) v) before n.3 n.7 (λ m l is. cc is))
-newest_call sizes (Loaded d v ∷ before) e older h = let n = newest_call sizes before e older h in (Loaded d v ∷ n.0, n.1, n.2, n.3, ap (λ (l : List Touch). Loaded d v ∷ l) n.4, n.5, n.6, still_last sizes (Loaded (cell_at sizes d) v) before n.3 n.7 (λ m l is. cc is))
-newest_call sizes (Changed d f v ∷ before) e older h = let n = newest_call sizes before e older h in (Changed d f v ∷ n.0, n.1, n.2, n.3, ap (λ (l : List Touch). Changed d f v ∷ l) n.4, n.5, n.6, still_last sizes (Changed (cell_at sizes d) f v) before n.3 n.7 (λ m l is. cc is))
-newest_call sizes (t ∷ before) e older h = let n = newest_call sizes before e older h in (t ∷ n.0, n.1, n.2, n.3, ap (λ (l : List Touch). t ∷ l) n.4, n.5, n.6, still_last sizes t before n.3 n.7 (λ m l is. cc is))
+newest_call sizes (t ∷ before) e older h = let n = newest_call sizes before e older h in (t ∷ n.0, n.1, n.2, n.3, ap (λ (l : List Touch). t ∷ l) n.4, n.5, n.6, still_last sizes (in_cell sizes t) before n.3 n.7 (λ m l is. cc is))
 
 module _ (sizes : Sizes) (whole : List Step) (page_some : 0 < sizes.page_size) (frames_some : 0 < sizes.frames) (accepted : IsAccepted sizes whole) (riders : List RiderState) (one : IsOneList whole (map (λ (q : RiderState). q.calls) riders))
     (ties : Every (λ (q : RiderState). AreTied q.view.touches q.calls) riders) (cells : ℕ) (words : List ℕ) (h : HasOneOrder cells words (map (λ (q : RiderState). q.view) riders)) (history : List TouchBy) (its : IsHistory sizes whole riders h.0 history) where

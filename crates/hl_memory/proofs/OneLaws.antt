@@ -94,67 +94,42 @@ module _ (F : Type 0) (sizes : Sizes) (riders : List RiderState) (ending : Endin
   of : (i : ℕ) (r : RiderState) → slice_get riders i ≡ Some r → IsOf (ends.steps_cut ++ ending.journal) r.calls
   of i r at = every_at (IsOf (ends.steps_cut ++ ending.journal)) (map (λ (z : RiderState). z.calls) riders) ends.one_list.each i r.calls (calls_at riders i r at)
 
-  -- The acts of a rider
-  record Chosen (i : ℕ) (acts : List Touch) (o : Option RiderState) : Type 0 where
-    are : (r : RiderState) → o ≡ Some r → AreActsOf sizes (ends.steps_cut ++ ending.journal) r acts
-    own : (r : RiderState) → o ≡ Some r → is_thread i ≡ true → acts ≡ by_address sizes r.view.touches r.calls
-    opens : (r : RiderState) → o ≡ Some r → is_thread i ≡ true → AreOpen sizes acts r.calls (closed (ends.steps_cut ++ ending.journal))
-    zeros : (r : RiderState) → o ≡ Some r → is_thread i ≡ false → AreActs sizes acts r.calls []
-    none : o ≡ None → acts ≡ []
-
-  same_rider : (r q : RiderState) → Some r ≡ Some q → r ≡ q
-  same_rider r q e = cc e
-
-  no_rider : (r : RiderState) → None ≡ Some r → ⊥
-  no_rider r e = absurd (cc e)
+  -- these are the acts of a rider, which has those of its trace if it is a thread
+  abbrev Chosen : ℕ → List Touch → Option RiderState → Type 0
+  Chosen i acts None = acts ≡ []
+  Chosen i acts (Some r) = AreActsOf sizes (ends.steps_cut ++ ending.journal) r acts
+      × (is_thread i ≡ true → (acts ≡ by_address sizes r.view.touches r.calls) × AreOpen sizes acts r.calls (closed (ends.steps_cut ++ ending.journal)))
+      × (is_thread i ≡ false → AreActs sizes acts r.calls [])
 
   chosen : (i : ℕ) → (acts : List Touch) × Chosen i acts (slice_get riders i)
   chosen i = by (slice_get riders i) refl
     where
       by : (o : Option RiderState) → slice_get riders i ≡ o → (acts : List Touch) × Chosen i acts o
-      by None at = (
-        [],
-        record {
-          are = λ r e. absurd (no_rider r e);
-          own = λ r e less. absurd (no_rider r e);
-          opens = λ r e less. absurd (no_rider r e);
-          zeros = λ r e far. absurd (no_rider r e);
-          none = λ e. refl;
-        },
-      )
+      by None at = ([], refl)
       by (Some r) at = ⊎_elim low high (either (is_thread i))
         where
           low : is_thread i ≡ true → (acts : List Touch) × Chosen i acts (Some r)
           low less =
               let acts = by_address sizes r.view.touches r.calls in
-              let h = (acts_are_kept sizes).ends (ends.steps_cut ++ ending.journal) r acts (first i r less at).acts in (
-                acts,
-                record {
-                  are = λ q e. subst (λ (x : RiderState). AreActsOf sizes (ends.steps_cut ++ ending.journal) x acts) (same_rider r q e) h.0;
-                  own = λ q e some. ap (λ (x : RiderState). by_address sizes x.view.touches x.calls) (same_rider r q e);
-                  opens = λ q e some. subst (λ (x : RiderState). AreOpen sizes acts x.calls (closed (ends.steps_cut ++ ending.journal))) (same_rider r q e) h.1;
-                  zeros = λ q e far. absurd (not_both less far);
-                  none = λ e. absurd (no_rider r (sym e));
-                },
-              )
+              let h = (acts_are_kept sizes).ends (ends.steps_cut ++ ending.journal) r acts (first i r less at).acts in
+              (acts, (h.0, (λ own. (refl, h.1)), λ far. absurd (not_both less far)))
 
           high : is_thread i ≡ false → (acts : List Touch) × Chosen i acts (Some r)
           high far =
               let s = others i r far at in
-              let made = acts_from sizes page_some frames_some r.view.touches r.calls [] s.enters.entered s.enters.within in
-              let are : AreActsOf sizes (ends.steps_cut ++ ending.journal) r made.0 = record { waiting = []; touches = made.1; entered = made.2; frees = s.enters.frees; calls = s.enters.calls; above = tt } in (
+              let made = acts_from sizes page_some frames_some r.view.touches r.calls [] s.enters.entered s.enters.within in (
                 made.0,
-                record {
-                  are = λ q e. subst (λ (x : RiderState). AreActsOf sizes (ends.steps_cut ++ ending.journal) x made.0) (same_rider r q e) are;
-                  own = λ q e less. absurd (not_both less far);
-                  opens = λ q e less. absurd (not_both less far);
-                  zeros = λ q e some. subst (λ (x : RiderState). AreActs sizes made.0 x.calls []) (same_rider r q e) made.2;
-                  none = λ e. absurd (no_rider r (sym e));
-                },
+                (record { waiting = []; touches = made.1; entered = made.2; frees = s.enters.frees; calls = s.enters.calls; above = tt }, (λ less. absurd (not_both less far)), λ other. made.2),
               )
 
+  chosen_at : (i : ℕ) (r : RiderState) → slice_get riders i ≡ Some r → Chosen i (chosen i).0 (Some r)
+  chosen_at i r at = subst (Chosen i (chosen i).0) at (chosen i).1
+
+  none_chosen : (i : ℕ) → slice_get riders i ≡ None → (chosen i).0 ≡ []
+  none_chosen i at = subst (Chosen i (chosen i).0) at (chosen i).1
+
   history_is : (history : List TouchBy) × IsHistory sizes (ends.steps_cut ++ ending.journal) riders ends.ruled.rule.order.0 history × ((i : ℕ) → touches_of i history ≡ (chosen i).0)
-  history_is = histories_stand F sizes riders ending ends (λ i. (chosen i).0) (λ i r at. (chosen i).1.are r at) (λ i far. (chosen i).1.none (slice_get_past riders i far))
+  history_is = histories_stand F sizes riders ending ends (λ i. (chosen i).0) (λ i r at. (chosen_at i r at).0) (λ i far. none_chosen i (slice_get_past riders i far))
 
   abbrev history : List TouchBy
   history = history_is.0
@@ -186,7 +161,7 @@ module _ (F : Type 0) (sizes : Sizes) (riders : List RiderState) (ending : Endin
           (every_at (λ (x : Entry). Begins (left_by x) (ends.steps_cut ++ ending.journal)) r.calls (acts_begin i r at).1 k e there, λ other none. every_at (λ (x : Entry). places sizes x.before x.steps ≡ []) r.calls (none i r other at) k e there))
 
       by : (o : Option RiderState) → slice_get riders i ≡ o → AreTied (touches_of i history_is.0) (calls_of o) × Every (Fits i) (calls_of o)
-      by None at = (subst (λ (l : List Touch). AreTied l []) (sym (history_is.2 i ∙ (chosen i).1.none at)) tt, tt)
+      by None at = (subst (λ (l : List Touch). AreTied l []) (sym (history_is.2 i ∙ none_chosen i at)) tt, tt)
       by (Some r) at = ((acts_begin i r at).0, all_fit r at)
 
   -- where an address is open, nobody but threads stored at it before
@@ -202,7 +177,7 @@ module _ (F : Type 0) (sizes : Sizes) (riders : List RiderState) (ending : Endin
       high : is_thread i ≡ false → ⊥
       high far =
           let r = whose_act F sizes riders ending ends page_some frames_some history its i (newer ++ front) base act all in
-          let entered = subst (λ (l : List Touch). AreActs sizes l r.0.calls []) (sym (history_is.2 i)) ((chosen i).1.zeros r.0 r.1 far) in
+          let entered = subst (λ (l : List Touch). AreActs sizes l r.0.calls []) (sym (history_is.2 i)) ((chosen_at i r.0 r.1).2 far) in
           let t = acts_begin i r.0 r.1 in
           let holds = every_both (λ (e : Entry). Begins (left_by e) whole) (λ (e : Entry). newest_writes e.steps [] ≡ []) r.0.calls t.1 (others i r.0 far r.1).writes in
           let z = zero_of sizes whole (touches_of i history) (touches_of i (newer ++ front)) (touches_of i base) act a w r.0.calls split entered t.0 holds puts in
@@ -252,7 +227,7 @@ module _ (F : Type 0) (sizes : Sizes) (riders : List RiderState) (ending : Endin
       loads low a v e =
           let parts = here (Loaded a v) e in
           let r = whose_act F sizes riders ending ends page_some frames_some history its t.rider newer b (Loaded a v) parts in
-          let opens = subst (λ (l : List Touch). AreOpen sizes l r.0.calls (closed whole)) (sym (history_is.2 t.rider)) ((chosen t.rider).1.opens r.0 r.1 low) in
+          let opens = subst (λ (l : List Touch). AreOpen sizes l r.0.calls (closed whole)) (sym (history_is.2 t.rider)) (((chosen_at t.rider r.0 r.1).1 low).1) in
           let o = load_open F sizes riders ending ends page_some frames_some history its t.rider r.0 r.1 opens newer b a v parts in
           open_find_memory F sizes riders ending ends page_some frames_some history its t.rider r.0 r.1 opens newer b (Loaded a v) parts
           ∙ kept (newer ++ t ∷ []) b a (dropped t calls) next (open_there F sizes riders ending ends page_some frames_some history its t.rider newer b (Loaded a v) a parts o)
@@ -277,7 +252,7 @@ module _ (F : Type 0) (sizes : Sizes) (riders : List RiderState) (ending : Endin
   each_own : (i : ℕ) (r : RiderState) → is_thread i ≡ true → slice_get riders i ≡ Some r → acts_by i (joined sizes is_thread history_is.0 (λ j. calls_of (slice_get riders j))) ≡ trace sizes r
   each_own i r less at =
       joined_each sizes is_thread i less history (λ j. calls_of (slice_get riders j))
-      ∙ ap (λ (l : List Touch). acts_of sizes l (calls_of (slice_get riders i))) (history_is.2 i ∙ (chosen i).1.own r at less)
+      ∙ ap (λ (l : List Touch). acts_of sizes l (calls_of (slice_get riders i))) (history_is.2 i ∙ ((chosen_at i r at).1 less).0)
       ∙ ap (λ (o : Option RiderState). acts_of sizes (by_address sizes r.view.touches r.calls) (calls_of o)) at
 
   -- the image of a page that was flushed
@@ -330,7 +305,7 @@ module _ (F : Type 0) (sizes : Sizes) (riders : List RiderState) (ending : Endin
           by None at =
               subst (Every (PutsBelow (tail sizes whole)))
               (sym (joined_each sizes is_thread i own history_is.0 (λ j. calls_of (slice_get riders j))
-              ∙ ap (λ (l : List Touch). acts_of sizes l (calls_of (slice_get riders i))) (history_is.2 i ∙ (chosen i).1.none at)))
+              ∙ ap (λ (l : List Touch). acts_of sizes l (calls_of (slice_get riders i))) (history_is.2 i ∙ none_chosen i at)))
               tt
 
   pub one_trace : HasOneTrace sizes riders ending ends is_thread
