@@ -1,20 +1,16 @@
--- What loads find, between two calls of their rider.
+-- What stands before an act of a rider between two of its calls, and what the cell of an open address holds.
 use Rattle.std.proofs.Common.{◌≡◌, ℕ, ◌<◌, ◌≤◌, ◌⊎◌, List, [], ◌∷◌, ◌++◌, length, map, ap, sym, ◌∙◌, ⊎_elim, subst, arith, append_assoc}
 use Rattle.std.specs.List.{AllByRecursion as Every}
 use Rattle.hl_model.specs.declared.step.Step.{Step}
-use Rattle.hl_model.specs.declared.view.View.{View}
 use Rattle.hl_model.specs.Offsets.{tail}
 use Rattle.hl_model.specs.Settled.{closed}
 use Rattle.hl_model.specs.Sizes.{Sizes}
-use Rattle.hl_laws.proofs.BoundLaws.{views_are_bounded}
-use Rattle.hl_laws.proofs.WordLaws.{seen_tail-le}
-use Rattle.hl_pass.proofs.LookLaws.{viewed}
 use Rattle.hl_history.specs.declared.view.Entry.{Entry}
 use Rattle.hl_history.specs.Lists.{Begins, left_by}
 use Rattle.hl_words.specs.declared.view.Extent.{Extent}
 use Rattle.hl_words.specs.declared.view.RiderView.{RiderView}
 use Rattle.hl_words.specs.declared.view.Touch.{Touch}
-use Rattle.hl_words.specs.declared.view.Touch.TheVariants.{Loaded, Called}
+use Rattle.hl_words.specs.declared.view.Touch.TheVariants.{Called}
 use Rattle.hl_words.specs.Rule.{TouchBy, by_rider, held, RisesTo, IsSerial, touches_of, HasOneOrder}
 use Rattle.hl_words.proofs.CallOrder.{IsUpTo, met_all}
 use Rattle.hl_words.proofs.Cut.{every_back}
@@ -24,20 +20,10 @@ use Rattle.hl_words.specs.States.{RiderState, AreTied}
 use Rattle.hl_keeper.specs.Endings.{EndingState}
 use Rattle.hl_keeper.specs.Passes.{cell_at}
 use Rattle.hl_domain.specs.Domains.{IsEnding}
-use Rattle.hl_memory.specs.Acts.{in_cell, in_cells, IsZeroAt, IsHistory}
-use Rattle.hl_memory.specs.Memory.{HasGrown, HasNoneLeft, CellsAreMemory, LoadsFindMemory, SeenIsOpen}
+use Rattle.hl_memory.specs.Acts.{in_cells, IsZeroAt, IsHistory}
+use Rattle.hl_memory.specs.Memory.{HasGrown, HasNoneLeft}
 use Rattle.hl_memory.proofs.ActLaws.{cells_both}
 use Rattle.hl_memory.proofs.MemoryLaws.{cell_is_memory, none_swept}
-
-pub seen_is_open : SeenIsOpen
-seen_is_open sizes A later t a first last some ok was is low high =
-    let v = viewed sizes t A first was in
-    let w = viewed sizes t later last is in
-    (omega (arith, high, ap (λ (z : View). z.tail) v.1, seen_tail-le sizes t A some), omega (arith, low, ap (λ (z : View). z.head) w.1, (views_are_bounded sizes later t ok w.0).1))
-
-pub cells_are_memory : (F : Type 0) → CellsAreMemory F
-cells_are_memory F sizes riders ending ends page_some frames_some history newer before its parts a A later bA bl below open_there grown none_left =
-    cell_is_memory sizes _ page_some frames_some ends.accepted riders ends.one_list ends.tied _ _ ends.ruled.rule.order history newer before its parts a A later bA bl below open_there grown none_left
 
 -- A place of a history, of which these touches stand before: they have all that made a list in whose log the address is, and
 -- none of what was done once the list was longer than another in which the address isn't closed
@@ -135,15 +121,3 @@ module _ (sizes : Sizes) (cells : ℕ) (words : List ℕ) (riders : List RiderVi
       let has : rest ≡ in_cells sizes (cut.before ++ by_rider i act ∷ []) ++ in_cells sizes before =
       ap (in_cells sizes) (sym (append_assoc cut.before (by_rider i act ∷ []) before)) ∙ cells_both sizes (cut.before ++ by_rider i act ∷ []) before in
       none_before cells words riders h i done left (in_cells sizes cut.front) rest (in_cells sizes (cut.before ++ by_rider i act ∷ [])) (in_cells sizes before) whole has j m l q later past at is more
-
-pub loads_find_memory : (F : Type 0) → LoadsFindMemory F
-loads_find_memory F sizes riders ending ends page_some frames_some history newer before its i a v met begun done left last middle between earlier parts behind ahead A later bA bl from to below open_there =
-    let views = map (λ (r : RiderState). r.view) riders in
-    let order = ends.ruled.rule.order in
-    let act = Loaded a v in
-    let split : history ≡ (newer ++ by_rider i act ∷ []) ++ before = parts ∙ sym (append_assoc newer (by_rider i act ∷ []) before) in
-    let grown = subst (λ (n : ℕ). HasGrown views n (in_cells sizes before)) (sym from) (grown_here sizes _ _ views order history newer before its.cells i act parts met begun between earlier ahead) in
-    let none = subst (λ (n : ℕ). HasNoneLeft views n (in_cells sizes before)) (sym to) (none_here sizes _ _ views order history newer before its.cells i act parts done left last middle behind) in
-    let whole = sym its.cells ∙ ap (in_cells sizes) parts ∙ cells_both sizes newer (by_rider i act ∷ before) in
-    (serial_end (in_cells sizes newer) (by_rider i (in_cell sizes act) ∷ in_cells sizes before) (subst IsSerial whole order.1.serial)).0
-    ∙ cells_are_memory F sizes riders ending ends page_some frames_some history (newer ++ by_rider i act ∷ []) before its split a A later bA bl below open_there grown none

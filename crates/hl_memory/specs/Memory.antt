@@ -1,14 +1,10 @@
 -- One memory by address: what loads find.
-use Rattle.std.specs.Prelude.{ℕ, ◌≡◌, ◌<◌, ◌≤◌, ◌⊎◌, List, [], ◌∷◌, ◌++◌, length, map, Some, slice_get, slice_index}
-use Rattle.hl_model.specs.declared.step.Step.{Step}
-use Rattle.hl_model.specs.declared.view.View.{View}
+use Rattle.std.specs.Prelude.{ℕ, ◌≡◌, ◌<◌, ◌≤◌, ◌⊎◌, List, [], ◌∷◌, ◌++◌, length, Some, slice_get, slice_index}
 use Rattle.hl_model.specs.Offsets.{tail}
-use Rattle.hl_model.specs.Replies.{IsAccepted}
 use Rattle.hl_model.specs.Settled.{closed}
 use Rattle.hl_model.specs.Sizes.{Sizes}
-use Rattle.hl_model.specs.Views.{slot_view}
 use Rattle.hl_history.specs.declared.view.Entry.{Entry}
-use Rattle.hl_history.specs.Lists.{Begins, left_by}
+use Rattle.hl_history.specs.Lists.{left_by}
 use Rattle.hl_words.specs.declared.view.Extent.{Extent}
 use Rattle.hl_words.specs.declared.view.RiderView.{RiderView}
 use Rattle.hl_words.specs.declared.view.Touch.{Touch}
@@ -33,37 +29,6 @@ HasNoneLeft riders n before = (j : ℕ) (met left : Extent) (q : RiderView) (lat
     → slice_get riders j ≡ Some q → q.touches ≡ later ++ Called met left ∷ past → n < left.steps
     → HasOnly j past before
 
--- At a place of the history that stands behind all that made the list A, and before all that was done once
--- the list was longer than `later`, the cell of an address holds what the newest store at that very address
--- left, where the address is in the log of A and not closed in `later`
-abbrev pub CellsAreMemory : Type 0 → Type 0
-CellsAreMemory F = (sizes : Sizes) (riders : List RiderState) (ending : EndingState F)
-    (ends : IsEnding sizes riders ending)
-    → let whole = ends.steps_cut ++ ending.journal
-    in let views = map (λ r. r.view) riders
-    in 0 < sizes.page_size → 0 < sizes.frames → (history newer before : List TouchBy)
-    → IsHistory sizes whole riders ends.ruled.rule.order.0 history → history ≡ newer ++ before
-    → (a : ℕ) (A later : List Step) → Begins A whole → Begins later whole → a < tail sizes A
-    → closed later ≤ a → HasGrown views (length A) (in_cells sizes before)
-    → HasNoneLeft views (length later) (in_cells sizes before)
-    → held (cell_at sizes a) (in_cells sizes before) ≡ held a before
-
--- A load that a rider made at an address between two calls of its own found what the newest store at that
--- address left, where the address is in the log of the list that the one left, and not closed in the list
--- that the other met
-abbrev pub LoadsFindMemory : Type 0 → Type 0
-LoadsFindMemory F = (sizes : Sizes) (riders : List RiderState) (ending : EndingState F)
-    (ends : IsEnding sizes riders ending)
-    → let whole = ends.steps_cut ++ ending.journal
-    in 0 < sizes.page_size → 0 < sizes.frames → (history newer before : List TouchBy)
-    → IsHistory sizes whole riders ends.ruled.rule.order.0 history
-    → (i a v : ℕ) (met begun done left : Extent) (last middle between earlier : List Touch)
-    → history ≡ newer ++ by_rider i (Loaded a v) ∷ before
-    → touches_of i newer ≡ last ++ Called done left ∷ middle
-    → touches_of i before ≡ between ++ Called met begun ∷ earlier
-    → (A later : List Step) → Begins A whole → Begins later whole → length A ≡ begun.steps
-    → length later ≡ done.steps → a < tail sizes A → closed later ≤ a → v ≡ held a before
-
 -- Each change found what the newest store at its address left
 abbrev pub ChangesFindMemory : Type 0 → Type 0
 ChangesFindMemory F = (sizes : Sizes) (riders : List RiderState) (ending : EndingState F)
@@ -72,12 +37,6 @@ ChangesFindMemory F = (sizes : Sizes) (riders : List RiderState) (ending : Endin
     in 0 < sizes.page_size → 0 < sizes.frames → (history newer before : List TouchBy)
     → IsHistory sizes whole riders ends.ruled.rule.order.0 history
     → (i a found v : ℕ) → history ≡ newer ++ by_rider i (Changed a found v) ∷ before → found ≡ held a before
-
--- What a slot sees at both calls tells so
-abbrev pub SeenIsOpen : Type 0
-SeenIsOpen = (sizes : Sizes) (A later : List Step) (t a : ℕ) (first last : View) → 0 < sizes.page_size
-    → IsAccepted sizes later → slot_view sizes t A ≡ Some first → slot_view sizes t later ≡ Some last
-    → last.head ≤ a → a < first.tail → (a < tail sizes A) × (closed later ≤ a)
 
 -- the address is in the log of the list that the newest call so far left, and not below this number
 abbrev pub IsOpen : Sizes → ℕ → List Entry → ℕ → Type 0

@@ -4,7 +4,7 @@ ghost use Rattle.hl_memory.specs.Counters.{CountersAreSums};
 ghost use Rattle.hl_memory.specs.Images.{ImagesAreMemory, ImagesAreSumsAnywhere, ImagesAreWords, ImagesAreWrites, ImagesAreZero, ImagesStay};
 ghost use Rattle.hl_memory.specs.Keeping.{ActsAreKept, ActsStand, CallsMeetView};
 ghost use Rattle.hl_memory.specs.OneTrace.{TracesAreOne};
-ghost use Rattle.hl_memory.specs.Memory.{CellsAreMemory, ChangesFindMemory, HistoriesStand, LoadsFindMemory, OneMemory, OpenFindMemory, SeenIsOpen, WordsAreMemory};
+ghost use Rattle.hl_memory.specs.Memory.{ChangesFindMemory, HistoriesStand, OneMemory, OpenFindMemory, WordsAreMemory};
 ghost use Rattle.hl_memory.specs.Tails.{NoneAreSkipped, TailIsTheSum};
 ghost use Rattle.hl_memory.specs.Records.{OthersAreZero, RecordsAreApart, RecordsAreFound, RecordsAreFoundBy, RecordsAreRead, RecordsAreWhole, RecordsStay};
 
@@ -29,23 +29,6 @@ pub fn open_find_memory<F: Task>()
 /// So does each change, of whichever rider.
 pub fn changes_find_memory<F: Task>()
     ensures { ChangesFindMemory F }
-{}
-
-/// So does a load between two calls of its rider, where its address is in the log of the list that the one
-/// left, and not closed in the list that the other met.
-pub fn loads_find_memory<F: Task>()
-    ensures { LoadsFindMemory F }
-{}
-
-/// What a slot sees at both calls tells so.
-pub fn seen_is_open()
-    ensures { SeenIsOpen }
-{}
-
-/// At a place of that order the cell of an open address holds what the newest store at that very address
-/// left.
-pub fn cells_are_memory<F: Task>()
-    ensures { CellsAreMemory F }
 {}
 
 /// The words at the end are that memory.
