@@ -96,11 +96,13 @@ module _ (sizes : Sizes) (is_thread : ℕ → Bool) where
   joined [] calls = []
   joined (t ∷ b) calls = shown t calls ++ joined b (dropped t calls)
 
-  pub shown_low : (t : TouchBy) (calls : ℕ → List Entry) (rest : List ActBy) → is_thread t.rider ≡ true → shown t calls ++ rest ≡ tagged t.rider (told_as sizes t.touch (calls t.rider)) ++ rest
-  shown_low t calls rest less = ap (λ (b : Bool). (if b then tagged t.rider (told_as sizes t.touch (calls t.rider)) else []) ++ rest) less
-
-  pub shown_high : (t : TouchBy) (calls : ℕ → List Entry) (rest : List ActBy) → is_thread t.rider ≡ false → shown t calls ++ rest ≡ rest
-  shown_high t calls rest far = ap (λ (b : Bool). (if b then tagged t.rider (told_as sizes t.touch (calls t.rider)) else []) ++ rest) far
+  -- what holds of them on top of others, if the rider is a thread, and of those others, if it is none
+  pub shown_by : (P : List ActBy → Type 0) (t : TouchBy) (calls : ℕ → List Entry) (rest : List ActBy) → (is_thread t.rider ≡ true → P (tagged t.rider (told_as sizes t.touch (calls t.rider)) ++ rest)) → (is_thread t.rider ≡ false → P rest) → P (shown t calls ++ rest)
+  shown_by P t calls rest own other = by (is_thread t.rider) own other
+    where
+      by : (b : Bool) → (b ≡ true → P (tagged t.rider (told_as sizes t.touch (calls t.rider)) ++ rest)) → (b ≡ false → P rest) → P ((if b then tagged t.rider (told_as sizes t.touch (calls t.rider)) else []) ++ rest)
+      by true own other = own refl
+      by false own other = other refl
 
   -- by whom they are
   pub joined_theirs : (b : List TouchBy) (calls : ℕ → List Entry) → Every (λ (t : ActBy). is_thread t.thread ≡ true) (joined b calls)
@@ -108,10 +110,8 @@ module _ (sizes : Sizes) (is_thread : ℕ → Bool) where
   joined_theirs (t ∷ b) calls =
       let P = λ (x : ActBy). is_thread x.thread ≡ true in
       let rest = joined_theirs b (dropped t calls) in
-      ⊎_elim
-      (λ (low : is_thread t.rider ≡ true). subst (Every P) (sym (shown_low t calls (joined b (dropped t calls)) low)) (every_append P (tagged t.rider (told_as sizes t.touch (calls t.rider))) (joined b (dropped t calls)) (theirs_tagged is_thread t.rider (told_as sizes t.touch (calls t.rider)) low) rest))
-      (λ (far : is_thread t.rider ≡ false). subst (Every P) (sym (shown_high t calls (joined b (dropped t calls)) far)) rest)
-      (either (is_thread t.rider))
+      shown_by (Every P) t calls (joined b (dropped t calls))
+      (λ low. every_append P (tagged t.rider (told_as sizes t.touch (calls t.rider))) (joined b (dropped t calls)) (theirs_tagged is_thread t.rider (told_as sizes t.touch (calls t.rider)) low) rest) (λ far. rest)
 
   -- the acts of each thread
   pub joined_each : (i : ℕ) → is_thread i ≡ true → (b : List TouchBy) (calls : ℕ → List Entry) → acts_by i (joined b calls) ≡ acts_of sizes (touches_of i b) (calls i)
@@ -123,18 +123,14 @@ module _ (sizes : Sizes) (is_thread : ℕ → Bool) where
 
       own : acts_by i (joined b (dropped t calls)) ≡ acts_of sizes (touches_of i b) (dropped t calls i) → i ≡ t.rider → acts_by i (joined (t ∷ b) calls) ≡ acts_of sizes (touches_of i (t ∷ b)) (calls i)
       own before same =
-          ap (acts_by i) (shown_low t calls rest (ap is_thread (sym same) ∙ less))
-          ∙ ap (λ (k : ℕ). acts_by i (tagged k (told_as sizes t.touch (calls k)) ++ rest)) (sym same)
-          ∙ own_tagged i (told_as sizes t.touch (calls i)) rest
+          shown_by (λ (l : List ActBy). acts_by i l ≡ told_as sizes t.touch (calls i) ++ acts_by i rest) t calls rest
+          (λ low. ap (λ (k : ℕ). acts_by i (tagged k (told_as sizes t.touch (calls k)) ++ rest)) (sym same) ∙ own_tagged i (told_as sizes t.touch (calls i)) rest)
+          (λ far. absurd (not_both less (ap is_thread same ∙ far)))
           ∙ ap (λ (l : List Act). told_as sizes t.touch (calls i) ++ l) (before ∙ ap (acts_of sizes (touches_of i b)) (own_dropped t calls i same))
           ∙ sym (ap (λ (l : List Touch). acts_of sizes l (calls i)) (own_touch t b i same))
 
       skipped : i ≢ t.rider → acts_by i (shown t calls ++ rest) ≡ acts_by i rest
-      skipped apart =
-          ⊎_elim
-          (λ (low : is_thread t.rider ≡ true). ap (acts_by i) (shown_low t calls rest low) ∙ other_tagged i t.rider (told_as sizes t.touch (calls t.rider)) rest (λ e. apart (sym e)))
-          (λ (far : is_thread t.rider ≡ false). ap (acts_by i) (shown_high t calls rest far))
-          (either (is_thread t.rider))
+      skipped apart = shown_by (λ (l : List ActBy). acts_by i l ≡ acts_by i rest) t calls rest (λ low. other_tagged i t.rider (told_as sizes t.touch (calls t.rider)) rest (λ e. apart (sym e))) (λ far. refl)
 
       other : acts_by i (joined b (dropped t calls)) ≡ acts_of sizes (touches_of i b) (dropped t calls i) → i ≢ t.rider → acts_by i (joined (t ∷ b) calls) ≡ acts_of sizes (touches_of i (t ∷ b)) (calls i)
       other before apart = skipped apart ∙ before ∙ ap (acts_of sizes (touches_of i b)) (other_dropped t calls i apart) ∙ sym (ap (λ (l : List Touch). acts_of sizes l (calls i)) (other_touch t b i apart))
@@ -173,15 +169,13 @@ module _ (sizes : Sizes) (is_thread : ℕ → Bool) where
     joined_leaves (t ∷ b) calls only =
         let rest = joined b (dropped t calls) in
         let before = joined_leaves b (dropped t calls) (fewer t b only) in
-        ⊎_elim
-        (λ (low : is_thread t.rider ≡ true). ap (left_at a) (shown_low t calls rest low) ∙ shown_leaves t.rider t.touch (calls t.rider) rest (held a b) before)
-        (λ (far : is_thread t.rider ≡ false).
-        ap (left_at a) (shown_high t calls rest far) ∙ before
+        shown_by (λ (l : List ActBy). left_at a l ≡ held a (t ∷ b)) t calls rest (λ low. shown_leaves t.rider t.touch (calls t.rider) rest (held a b) before)
+        (λ far.
+        before
         ∙ ⊎_elim
         (λ (p : Puts a t.touch). let is = put_is a t.touch p in absurd (not_both (only [] t.rider t.touch b is.0 refl is.1) far))
         (λ (p : Passes a t.touch). sym (p.leaves (held a b)))
         (puts_or_passes a t.touch))
-        (either (is_thread t.rider))
 
     -- what stands in front, where no thread stores there
     abbrev pub NoneByThreads : List TouchBy → Type 0
@@ -196,16 +190,15 @@ module _ (sizes : Sizes) (is_thread : ℕ → Bool) where
     joined_behind (t ∷ newer) before calls none =
         let rest = joined (newer ++ before) (dropped t calls) in
         let sooner = joined_behind newer before (dropped t calls) (λ front i act base v is puts. none (t ∷ front) i act base v (ap (λ (l : List TouchBy). t ∷ l) is) puts) in
-        ⊎_elim
-        (λ (low : is_thread t.rider ≡ true).
-        ap (left_at a) (shown_low t calls rest low) ∙ shown_leaves t.rider t.touch (calls t.rider) rest (left_at a rest) refl
+        shown_by (λ (l : List ActBy). left_at a l ≡ left_at a (joined before (all_dropped (t ∷ newer) calls))) t calls rest
+        (λ low.
+        shown_leaves t.rider t.touch (calls t.rider) rest (left_at a rest) refl
         ∙ ⊎_elim
         (λ (p : Puts a t.touch). let is = put_is a t.touch p in absurd (not_both low (none [] t.rider t.touch newer is.0 refl is.1)))
         (λ (p : Passes a t.touch). p.leaves (left_at a rest))
         (puts_or_passes a t.touch)
         ∙ sooner)
-        (λ (far : is_thread t.rider ≡ false). ap (left_at a) (shown_high t calls rest far) ∙ sooner)
-        (either (is_thread t.rider))
+        (λ far. sooner)
 
   -- the calls of each rider before a place of the order, each of which is so
   abbrev pub Ties : (ℕ → Entry → Type 0) → List TouchBy → (ℕ → List Entry) → Type 0

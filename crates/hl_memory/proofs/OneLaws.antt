@@ -37,7 +37,7 @@ use Rattle.hl_memory.proofs.EndLaws.{open_at_end, loaded_at, words_are_memory}
 use Rattle.hl_memory.proofs.FateLaws.{put_tied}
 use Rattle.hl_memory.proofs.FindLaws.{act_is, find_act, IsEntering, ties as acts_tied}
 use Rattle.hl_memory.proofs.BeyondLaws.{PutsBelow, none_of_other, puts_below, nothing_beyond}
-use Rattle.hl_memory.proofs.JoinLaws.{either, not_both, joined, dropped, all_dropped, joined_theirs, joined_each, OnlyThreads, NoneByThreads, joined_leaves, joined_behind, Ties, own_ties, lower_ties, Stands, stands_none, Standing, past_own, past_other, shown_low, shown_high}
+use Rattle.hl_memory.proofs.JoinLaws.{either, not_both, joined, dropped, all_dropped, joined_theirs, joined_each, OnlyThreads, NoneByThreads, joined_leaves, joined_behind, Ties, own_ties, lower_ties, Stands, stands_none, Standing, past_own, past_other, shown_by}
 use Rattle.hl_memory.proofs.KeepLaws.{acts_are_kept, acts_from}
 use Rattle.hl_memory.proofs.LoadLaws.{OpenThere, open_cell, open_unswept}
 use Rattle.hl_memory.proofs.OpenLaws.{change_open, changes_find_memory, load_open, open_there, open_find_memory, histories_stand, whose_act}
@@ -196,14 +196,9 @@ module _ (F : Type 0) (sizes : Sizes) (riders : List RiderState) (ending : Endin
       by (s ∷ A) none = absurd (omega (arith, none))
   standing newer (t ∷ b) calls is tied =
       let sooner = standing (newer ++ t ∷ []) b (dropped t calls) next (lower_ties sizes is_thread Fits t b calls tied) in
-      ⊎_elim
-      (λ (low : is_thread t.rider ≡ true).
-      subst So (sym (shown_low sizes is_thread t calls X low))
-      (past_own sizes is_thread page_some NoOthers whole (Fits t.rider) (λ e fits. fits.0) (in_cells sizes b) X sooner t.rider t.touch (touches_of t.rider b) (calls t.rider) tie finds (loads low) (changes low)))
-      (λ (far : is_thread t.rider ≡ false).
-      subst So (sym (shown_high sizes is_thread t calls X far))
-      (past_other sizes is_thread page_some NoOthers whole (Fits t.rider) (λ e fits. fits.0) (in_cells sizes b) X sooner (λ e fits. fits.1 far) t.touch (touches_of t.rider b) (calls t.rider) tie finds))
-      (either (is_thread t.rider))
+      shown_by sizes is_thread So t calls X
+      (λ low. past_own sizes is_thread page_some NoOthers whole (Fits t.rider) (λ e fits. fits.0) (in_cells sizes b) X sooner t.rider t.touch (touches_of t.rider b) (calls t.rider) tie finds (loads low) (changes low))
+      (λ far. past_other sizes is_thread page_some NoOthers whole (Fits t.rider) (λ e fits. fits.0) (in_cells sizes b) X sooner (λ e fits. fits.1 far) t.touch (touches_of t.rider b) (calls t.rider) tie finds)
     where
       X : List ActBy
       X = joined sizes is_thread b (dropped t calls)

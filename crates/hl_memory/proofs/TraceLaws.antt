@@ -49,17 +49,24 @@ moves_last : (xs : List Step) (s : Step) → moves_slot s ≡ true → list_any 
 moves_last [] s moves = ap (λ (b : Bool). b || false) moves
 moves_last (x ∷ xs) s moves = or_right (moves_slot x) (list_any moves_slot (xs ++ s ∷ [])) (moves_last xs s moves)
 
--- touches of a pass place nothing
-touch_places : (sizes : Sizes) (A : List Step) (s : Step) → is_touch s ≡ true → placed_by sizes A s ≡ []
-touch_places sizes A (Look t r h) e = refl
-touch_places sizes A (Write t a v) e = refl
-touch_places sizes A _ e = absurd (cc e)
+-- touches of a pass place nothing, end no action, and neither flush nor clean a page
+touch_is : (sizes : Sizes) (A : List Step) (s : Step) → is_touch s ≡ true → (placed_by sizes A s ≡ []) × (is_done s ≡ false) × (is_of_pages s ≡ false)
+touch_is sizes A (Look t r h) e = (refl, refl, refl)
+touch_is sizes A (Write t a v) e = (refl, refl, refl)
+touch_is sizes A _ e = absurd (cc e)
+
+-- nor does a step of a pass's own slot
+own_is : (s : Step) → is_call s ≡ true → (is_done s ≡ false) × (is_of_pages s ≡ false)
+own_is (Refresh t) e = (refl, refl)
+own_is (Release t) e = (refl, refl)
+own_is (Allocate t n) e = (refl, refl)
+own_is _ e = absurd (cc e)
 
 places_last : (sizes : Sizes) (A xs : List Step) (s : Step) → Every (λ (t : Step). is_touch t ≡ true) xs → places sizes A (xs ++ s ∷ []) ≡ placed_by sizes (A ++ xs) s
 places_last sizes A [] s all = ap (λ (l : List Step). placed_by sizes l s) (sym (append-nil A))
 places_last sizes A (x ∷ xs) s all =
     ap (λ (l : List Act). l ++ placed_by sizes A x) (places_last sizes (A ++ x ∷ []) xs s all.1)
-    ∙ ap (λ (l : List Act). placed_by sizes ((A ++ x ∷ []) ++ xs) s ++ l) (touch_places sizes A x all.0)
+    ∙ ap (λ (l : List Act). placed_by sizes ((A ++ x ∷ []) ++ xs) s ++ l) (touch_is sizes A x all.0).0
     ∙ append-nil (placed_by sizes ((A ++ x ∷ []) ++ xs) s)
     ∙ ap (λ (l : List Step). placed_by sizes l s) (append_assoc A (x ∷ []) xs)
 
@@ -68,34 +75,9 @@ quiet_places : (sizes : Sizes) (A : List Step) (s : Step) → moves_slot s ≡ f
 quiet_places sizes A (Allocate t n) e = absurd (cc e)
 quiet_places sizes A _ e = refl
 
--- touches end no action
-touch_ends_none : (s : Step) → is_touch s ≡ true → is_done s ≡ false
-touch_ends_none (Look t r h) e = refl
-touch_ends_none (Write t a v) e = refl
-touch_ends_none _ e = absurd (cc e)
-
--- nor does a step of a pass's own slot
-call_ends_none : (s : Step) → is_call s ≡ true → is_done s ≡ false
-call_ends_none (Refresh t) e = refl
-call_ends_none (Release t) e = refl
-call_ends_none (Allocate t n) e = refl
-call_ends_none _ e = absurd (cc e)
-
--- neither takes a page to clean
-touch_is_of_none : (s : Step) → is_touch s ≡ true → is_of_pages s ≡ false
-touch_is_of_none (Look t r h) e = refl
-touch_is_of_none (Write t a v) e = refl
-touch_is_of_none _ e = absurd (cc e)
-
-call_is_of_none : (s : Step) → is_call s ≡ true → is_of_pages s ≡ false
-call_is_of_none (Refresh t) e = refl
-call_is_of_none (Release t) e = refl
-call_is_of_none (Allocate t n) e = refl
-call_is_of_none _ e = absurd (cc e)
-
-none_of_pages : (xs : List Step) (s : Step) → Every (λ (t : Step). is_touch t ≡ true) xs → is_of_pages s ≡ false → list_any is_of_pages (xs ++ s ∷ []) ≡ false
-none_of_pages [] s all last = ap (λ (b : Bool). b || false) last
-none_of_pages (x ∷ xs) s all last = ap (λ (b : Bool). b || list_any is_of_pages (xs ++ s ∷ [])) (touch_is_of_none x all.0) ∙ none_of_pages xs s all.1 last
+none_of_pages : (sizes : Sizes) (xs : List Step) (s : Step) → Every (λ (t : Step). is_touch t ≡ true) xs → is_of_pages s ≡ false → list_any is_of_pages (xs ++ s ∷ []) ≡ false
+none_of_pages sizes [] s all last = ap (λ (b : Bool). b || false) last
+none_of_pages sizes (x ∷ xs) s all last = ap (λ (b : Bool). b || list_any is_of_pages (xs ++ s ∷ [])) (touch_is sizes [] x all.0).2 ∙ none_of_pages sizes xs s all.1 last
 
 module _ (sizes : Sizes) where
   -- steps that end no action close nothing
@@ -109,7 +91,7 @@ module _ (sizes : Sizes) where
   -- so it is with the touches of a pass and its step
   none_end : (xs : List Step) (s : Step) → Every (λ (t : Step). is_touch t ≡ true) xs → is_done s ≡ false → Every (λ (t : Step). is_done t ≡ false) (xs ++ s ∷ [])
   none_end [] s all last = (last, tt)
-  none_end (x ∷ xs) s all last = (touch_ends_none x all.0, none_end xs s all.1 last)
+  none_end (x ∷ xs) s all last = ((touch_is sizes [] x all.0).1, none_end xs s all.1 last)
 
   module _ (page_some : 0 < sizes.page_size) (frames_some : 0 < sizes.frames) where
     -- an address in rounds of all frames
@@ -280,10 +262,10 @@ module _ (sizes : Sizes) where
       let rise = touches_rise p.slot p.held p.touches h.acts.enters.touches in
       let up_one : p.held.read_only ≤ (seen p).read_only = rise.0 in
       let up_two : p.held.head ≤ (seen p).head = rise.1 in
-      let same = closed_stays list steps after (none_end p.touches s all (call_ends_none s own)) in (
+      let same = closed_stays list steps after (none_end p.touches s all ((own_is s own).0)) in (
         record {
           acts = (acts_are_kept sizes).goes_on was now list s epoch view p (by_address sizes p.rider.view.touches p.rider.calls) h.page_some own below ok is h.acts;
-          pages = (none_of_pages p.touches s all (call_is_of_none s own), h.pages);
+          pages = (none_of_pages sizes p.touches s all ((own_is s own).1), h.pages);
           page_some = h.page_some;
           frames_some = h.frames_some;
           list = list ++ steps;
@@ -321,7 +303,7 @@ module _ (sizes : Sizes) where
       let all = are_touches p.slot p.held p.touches h.acts.enters.touches in (
         record {
           acts = (acts_are_kept sizes).releases was now list p (by_address sizes p.rider.view.touches p.rider.calls) h.page_some ok is h.acts;
-          pages = (none_of_pages p.touches (Release p.slot) all refl, h.pages);
+          pages = (none_of_pages sizes p.touches (Release p.slot) all refl, h.pages);
         },
         ap (λ (l : List Act). (l ++ Met (length list + length steps) ∷ []) ++ trace sizes p.rider) (places_last sizes list p.touches (Release p.slot) all),
       )
