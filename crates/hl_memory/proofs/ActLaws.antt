@@ -1,19 +1,22 @@
 -- Acts and their touches: what one is tells of the other.
-use Rattle.std.proofs.Common.{◌≡◌, ℕ, suc, ◌==◌, ◌⊎◌, Bool, true, false, List, [], ◌∷◌, ◌++◌, length, map, Some, None, refl, ap, sym, ◌∙◌, inl, inr, ⊎_elim, length-append}
+use Rattle.std.proofs.Common.{◌≡◌, ℕ, suc, ◌==◌, ◌⊎◌, Bool, true, false, List, [], ◌∷◌, ◌++◌, length, map, Some, None, slice_get, refl, ap, sym, ◌∙◌, inl, inr, ⊎_elim, length-append}
 use Rattle.std.specs.Prelude.{if◌then◌else◌}
 use Rattle.std.specs.List.{AllByRecursion as Every}
 use Rattle.std.proofs.lemmas.Bool.{eq-eqb, eqb-true, ne_eqb}
+use Rattle.hl_model.specs.declared.step.Step.{Step}
 use Rattle.hl_model.specs.Sizes.{Sizes}
 use Rattle.hl_history.specs.declared.view.Entry.{Entry}
-use Rattle.hl_history.specs.Lists.{left_by}
+use Rattle.hl_history.specs.Lists.{left_by, IsOf, IsOneList}
 use Rattle.hl_words.specs.declared.view.Extent.{Extent}
 use Rattle.hl_words.specs.declared.view.Touch.{Touch}
 use Rattle.hl_words.specs.declared.view.Touch.TheVariants.{Stored, Changed, Called, Looked}
 use Rattle.hl_words.specs.Rule.{last_store, left_by as leaves_by, TouchBy, by_rider, held, touches_of}
-use Rattle.hl_words.specs.States.{AreTied}
+use Rattle.hl_words.specs.States.{RiderState, AreTied}
+use Rattle.hl_words.proofs.Cut.{every_at}
 use Rattle.hl_words.proofs.Lawful.{Puts, Passes, puts_or_passes, last_either}
 use Rattle.hl_words.proofs.Orders.{own_more}
 use Rattle.hl_keeper.specs.Passes.{cell_at}
+use Rattle.hl_images.proofs.WordLaws.{calls_at}
 use Rattle.hl_memory.specs.Acts.{in_cell, in_cells, IsPut}
 
 -- two lists in their cells
@@ -57,6 +60,13 @@ call_at P [] met left past (call ∷ calls) h e = (call, h.0, h.1 ∙ sym (lengt
 call_at P (Called m l ∷ later) met left past [] h e = absurd h
 call_at P (Called m l ∷ later) met left past (call ∷ calls) h e = call_at P later met left past calls h.2 e.1
 call_at P (_ ∷ later) met left past calls h e = call_at P later met left past calls h e
+
+-- a rider's calls are of the one list, and its touches are tied to them
+pub of_one_list : (whole : List Step) (riders : List RiderState) → IsOneList whole (map (λ (q : RiderState). q.calls) riders) → (i : ℕ) (r : RiderState) → slice_get riders i ≡ Some r → IsOf whole r.calls
+of_one_list whole riders one i r at = every_at (IsOf whole) (map (λ (q : RiderState). q.calls) riders) one.each i r.calls (calls_at riders i r at)
+
+pub tied_of : (riders : List RiderState) → Every (λ (q : RiderState). AreTied q.view.touches q.calls) riders → (i : ℕ) (r : RiderState) → slice_get riders i ≡ Some r → AreTied r.view.touches r.calls
+tied_of riders ties i r at = every_at (λ (q : RiderState). AreTied q.view.touches q.calls) riders ties i r at
 
 -- an act that stores at an address leaves its value there, and another leaves what was there
 put_leaves : (a v w : ℕ) (t : Touch) → IsPut t a v → leaves_by a t w ≡ v

@@ -22,7 +22,6 @@ use Rattle.hl_words.specs.declared.view.Touch.TheVariants.{Loaded, Called}
 use Rattle.hl_words.specs.Rule.{TouchBy, by_rider, held, touches_of}
 use Rattle.hl_words.specs.Past.{HasCalls, HasNoCalls}
 use Rattle.hl_words.specs.States.{RiderState, AreTied}
-use Rattle.hl_words.proofs.Cut.{every_at}
 use Rattle.hl_keeper.specs.Endings.{EndingState}
 use Rattle.hl_keeper.specs.Passes.{cell_at}
 use Rattle.hl_keeper.specs.Pages.{first_cell}
@@ -32,11 +31,11 @@ use Rattle.hl_images.specs.Images.{IsImaged}
 use Rattle.hl_images.proofs.CellLaws.{cell_low, cell_of_place}
 use Rattle.hl_images.proofs.PlaceLaws.{every_both, begun, shorter, low_last, at_later, not_yet}
 use Rattle.hl_images.proofs.TakenLaws.{sealed}
-use Rattle.hl_images.proofs.WordLaws.{calls_at, whose_view}
+use Rattle.hl_images.proofs.WordLaws.{whose_view}
 use Rattle.hl_memory.specs.Acts.{in_cells, IsHistory}
 use Rattle.hl_memory.specs.Images.{ImagesAreMemory}
 use Rattle.hl_memory.specs.Memory.{HasNoneLeft, WordsAreMemory}
-use Rattle.hl_memory.proofs.ActLaws.{call_at}
+use Rattle.hl_memory.proofs.ActLaws.{call_at, of_one_list, tied_of}
 use Rattle.hl_memory.proofs.LoadLaws.{OpenThere, open_cell}
 use Rattle.hl_memory.proofs.OpenLaws.{none_at_end}
 
@@ -125,8 +124,8 @@ loaded_at F sizes riders ending page k v image i page_some frames_some history i
     let none : HasNoneLeft views (length later2) (in_cells sizes s.1) =
     λ j met left q newer past at is more.
     let w = whose_view riders j q at in
-    let of : IsOf whole w.0.calls = every_at (IsOf whole) (map (λ (z : RiderState). z.calls) riders) i.ends.one_list.each j w.0.calls (calls_at riders j w.0 w.1) in
-    let tied : AreTied (newer ++ Called met left ∷ past) w.0.calls = subst (λ (l : List Touch). AreTied l w.0.calls) (ap (λ (z : RiderView). z.touches) w.2 ∙ is) (every_at (λ (z : RiderState). AreTied z.view.touches z.calls) riders i.ends.tied j w.0 w.1) in
+    let of : IsOf whole w.0.calls = of_one_list whole riders i.ends.one_list j w.0 w.1 in
+    let tied : AreTied (newer ++ Called met left ∷ past) w.0.calls = subst (λ (l : List Touch). AreTied l w.0.calls) (ap (λ (z : RiderView). z.touches) w.2 ∙ is) (tied_of riders i.ends.tied j w.0 w.1) in
     let c = call_at (λ (e : Entry). Begins (left_by e) whole × IsOneCall e.steps) newer met left past w.0.calls tied (every_both (λ (e : Entry). Begins (left_by e) whole) (λ (e : Entry). IsOneCall e.steps) w.0.calls of.begins (its.each j w.0 w.1).calls) in
     no_calls j met left q newer past at is
     (⊎_elim

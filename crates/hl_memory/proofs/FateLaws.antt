@@ -1,5 +1,5 @@
 -- What becomes of a page that is swept: it isn't freed, or by a call of the rider that swept it, and later.
-use Rattle.std.proofs.Common.{◌≡◌, ℕ, ◌/◌, ◌<◌, ◌≤◌, ◌⊎◌, Bool, true, false, List, [], ◌∷◌, ◌++◌, length, map, Some, slice_get, refl, ap, sym, ◌∙◌, inl, inr, ⊎_elim, subst, arith, append_assoc, length-append}
+use Rattle.std.proofs.Common.{◌≡◌, ℕ, ◌/◌, ◌<◌, ◌≤◌, ◌⊎◌, Bool, true, false, List, [], ◌∷◌, ◌++◌, length, map, Some, refl, ap, sym, ◌∙◌, inl, inr, ⊎_elim, subst, arith, append_assoc, length-append}
 use Rattle.std.specs.List.{AllByRecursion as Every}
 use Rattle.std.proofs.lemmas.Bool.{cases_lt}
 use Rattle.std.proofs.lemmas.List.{append-nil}
@@ -9,24 +9,23 @@ use Rattle.hl_model.specs.Pages.{is_freed, next_to_clean}
 use Rattle.hl_model.specs.Replies.{IsAccepted}
 use Rattle.hl_model.specs.Sizes.{Sizes}
 use Rattle.hl_history.specs.declared.view.Entry.{Entry}
-use Rattle.hl_history.specs.Lists.{Begins, entry, left_by, IsOf, IsOneList}
+use Rattle.hl_history.specs.Lists.{Begins, entry, left_by, IsOneList}
 use Rattle.hl_words.specs.declared.view.Extent.{Extent}
 use Rattle.hl_words.specs.declared.view.Touch.{Touch}
 use Rattle.hl_words.specs.declared.view.Touch.TheVariants.{Stored, Changed, Called}
 use Rattle.hl_words.specs.Rule.{TouchBy, by_rider, IsSerial, touches_of, HasOneOrder}
 use Rattle.hl_words.specs.States.{RiderState, AreTied}
 use Rattle.hl_words.proofs.CallOrder.{IsUpTo, met_all}
-use Rattle.hl_words.proofs.Cut.{every_at, every_back}
+use Rattle.hl_words.proofs.Cut.{every_back}
 use Rattle.hl_words.proofs.Orders.{own_more}
 use Rattle.hl_words.proofs.PastProofs.{IsCut, compared, cut_at, joined, touches_both, serial_end}
 use Rattle.hl_keeper.specs.Passes.{cell_at}
 use Rattle.hl_keeper.specs.Pages.{first_cell}
 use Rattle.hl_images.proofs.PlaceLaws.{both, shorter}
 use Rattle.hl_images.proofs.StoreLaws.{CallAt, ZeroAt, find_call, find_zero}
-use Rattle.hl_images.proofs.WordLaws.{calls_at}
 use Rattle.hl_images.proofs.WriterLaws.{next_call}
 use Rattle.hl_memory.specs.Acts.{in_cell, in_cells, IsPut, IsZeroAt, IsHistory}
-use Rattle.hl_memory.proofs.ActLaws.{cells_both, acts_both, acts_long, own_cells}
+use Rattle.hl_memory.proofs.ActLaws.{cells_both, acts_both, acts_long, own_cells, of_one_list, tied_of}
 use Rattle.hl_memory.proofs.PageLaws.{Freeing, freeing_call}
 use Rattle.hl_memory.proofs.TakeLaws.{one_take}
 
@@ -71,12 +70,6 @@ module _ (sizes : Sizes) (whole : List Step) (page_some : 0 < sizes.page_size) (
     pub begins : Begins (left_by call) whole
     pub met_is : met.steps ≡ length call.before
     pub steps : call.steps ≡ CleanDone q ∷ []
-
-  of : (l : ℕ) (q : RiderState) → slice_get riders l ≡ Some q → IsOf whole q.calls
-  of l q e = every_at (IsOf whole) (map (λ (z : RiderState). z.calls) riders) one.each l q.calls (calls_at riders l q e)
-
-  tied_at : (l : ℕ) (q : RiderState) → slice_get riders l ≡ Some q → AreTied q.view.touches q.calls
-  tied_at l q e = every_at (λ (z : RiderState). AreTied z.view.touches z.calls) riders ties l q e
 
   -- the page of a sweep's 0 isn't freed, or by a call above it: whoever freed it swept it, and a page is taken to be
   -- cleaned once
@@ -143,7 +136,7 @@ module _ (sizes : Sizes) (whole : List Step) (page_some : 0 < sizes.page_size) (
           Q e = Begins (left_by e) whole
 
           c : CallAt sizes Q f.r.view.touches f.call
-          c = find_call sizes Q f.number f.call f.r.view.touches f.r.calls f.call_at (tied_at f.s f.r f.at) (its.each f.s f.r f.at).frees (of f.s f.r f.at).begins
+          c = find_call sizes Q f.number f.call f.r.view.touches f.r.calls f.call_at (tied_of riders ties f.s f.r f.at) (its.each f.s f.r f.at).frees (of_one_list whole riders one f.s f.r f.at).begins
 
           z : ZeroAt sizes Q q (first_cell sizes q) c.before
           z = find_zero sizes Q q (first_cell sizes q) c.before c.earlier (c.swept q f.steps (first_cell sizes q) (omega arith) (omega (arith, page_some))) c.tied c.holds

@@ -13,7 +13,7 @@ use Rattle.hl_model.specs.Replies.{IsAccepted}
 use Rattle.hl_model.specs.Settled.{closed}
 use Rattle.hl_model.specs.Sizes.{Sizes}
 use Rattle.hl_history.specs.declared.view.Entry.{Entry}
-use Rattle.hl_history.specs.Lists.{Begins, entry, left_by, IsOf, IsOneList}
+use Rattle.hl_history.specs.Lists.{Begins, entry, left_by, IsOneList}
 use Rattle.hl_words.specs.declared.view.Extent.{Extent}
 use Rattle.hl_words.specs.declared.view.RiderView.{RiderView}
 use Rattle.hl_words.specs.declared.view.Touch.{Touch}
@@ -21,7 +21,7 @@ use Rattle.hl_words.specs.declared.view.Touch.TheVariants.{Stored, Changed, Call
 use Rattle.hl_words.specs.Rule.{last_store, TouchBy, by_rider, RisesTo, IsSerial, held, touches_of, HasOneOrder}
 use Rattle.hl_words.specs.States.{RiderState, AreTied}
 use Rattle.hl_words.proofs.CallOrder.{IsUpTo, met_all}
-use Rattle.hl_words.proofs.Cut.{every_at, every_back, every_weaker}
+use Rattle.hl_words.proofs.Cut.{every_back, every_weaker}
 use Rattle.hl_words.proofs.OneProofs.{none_end}
 use Rattle.hl_words.proofs.Orders.{there, own_more}
 use Rattle.hl_words.proofs.PastProofs.{after_call, compared, cut_at, joined, touches_both, serial_end}
@@ -33,11 +33,11 @@ use Rattle.hl_keeper.specs.Pages.{first_cell}
 use Rattle.hl_images.proofs.CellLaws.{parts_of, is_address}
 use Rattle.hl_images.proofs.PlaceLaws.{every_in, begun, both, freed_more, same_begin}
 use Rattle.hl_images.proofs.StoreLaws.{find_call, find_zero}
-use Rattle.hl_images.proofs.WordLaws.{calls_at, view_at}
+use Rattle.hl_images.proofs.WordLaws.{view_at}
 use Rattle.hl_images.proofs.WriterLaws.{next_call}
 use Rattle.hl_memory.specs.Acts.{in_cell, in_cells, IsPut, IsWriteAt, IsZeroAt, IsHistory}
 use Rattle.hl_memory.specs.Memory.{HasGrown, HasNoneLeft}
-use Rattle.hl_memory.proofs.ActLaws.{cells_both, acts_both, acts_long, own_cells, HasNoneAt, HasAt, has_at, HasPut, newest_put}
+use Rattle.hl_memory.proofs.ActLaws.{cells_both, acts_both, acts_long, own_cells, HasNoneAt, HasAt, has_at, HasPut, newest_put, of_one_list, tied_of}
 use Rattle.hl_memory.proofs.FateLaws.{FreedAbove, fate, put_tied}
 use Rattle.hl_memory.proofs.FindLaws.{act_is, IsEntering, FoundAct, Waits, Calls, find_at}
 use Rattle.hl_memory.proofs.PageLaws.{Freeing, freed_below, low_cleaned, freeing_call, page_later, sweep_later}
@@ -76,12 +76,6 @@ module _ (sizes : Sizes) (whole : List Step) (page_some : 0 < sizes.page_size) (
   abbrev Own : Entry → Type 0
   Own e = Calls whole e
 
-  of : (l : ℕ) (q : RiderState) → slice_get riders l ≡ Some q → IsOf whole q.calls
-  of l q e = every_at (IsOf whole) (map (λ (z : RiderState). z.calls) riders) one.each l q.calls (calls_at riders l q e)
-
-  tied_at : (l : ℕ) (q : RiderState) → slice_get riders l ≡ Some q → AreTied q.view.touches q.calls
-  tied_at l q e = every_at (λ (z : RiderState). AreTied z.view.touches z.calls) riders ties l q e
-
   order_parts : h.0 ≡ in_cells sizes newer ++ in_cells sizes b
   order_parts = sym its.cells ∙ ap (in_cells sizes) parts ∙ cells_both sizes newer b
 
@@ -113,7 +107,7 @@ module _ (sizes : Sizes) (whole : List Step) (page_some : 0 < sizes.page_size) (
         xs = xs;
         split = split;
         long = omega (arith, ap length in_b, length-append (touches_of i front) (act ∷ touches_of i base), ap length (own_cells sizes i b), acts_long sizes (touches_of i b));
-        found = find_at sizes whole r.0 (touches_of i history) (its.each i r.0 r.1) (of i r.0 r.1).begins (tied_at i r.0 r.1) xs act (touches_of i base) split;
+        found = find_at sizes whole r.0 (touches_of i history) (its.each i r.0 r.1) (of_one_list whole riders one i r.0 r.1).begins (tied_of riders ties i r.0 r.1) xs act (touches_of i base) split;
       }
 
   -- an act that stands after a call which left more than the later list isn't there
@@ -230,7 +224,7 @@ module _ (sizes : Sizes) (whole : List Step) (page_some : 0 < sizes.page_size) (
       let f = freed_by q less same in
       let view_s = view_at riders f.s f.r f.at in
       let Q = λ (e : Entry). Begins (left_by e) whole in
-      let c = find_call sizes Q f.number f.call f.r.view.touches f.r.calls f.call_at (tied_at f.s f.r f.at) (its.each f.s f.r f.at).frees (of f.s f.r f.at).begins in
+      let c = find_call sizes Q f.number f.call f.r.view.touches f.r.calls f.call_at (tied_of riders ties f.s f.r f.at) (its.each f.s f.r f.at).frees (of_one_list whole riders one f.s f.r f.at).begins in
       let left_is : c.left.steps ≡ length f.call.before + 1 = c.left_is ∙ length-append f.call.before f.call.steps ∙ ap (λ (l : List Step). length f.call.before + length l) f.steps in
       let has = grown f.s c.met c.left f.r.view c.late c.before view_s c.all (omega (arith, c.met_is, left_is)) (omega (arith, left_is, f.low)) in
       let cell = cell_at sizes a in

@@ -10,7 +10,7 @@ use Rattle.hl_model.specs.Offsets.{tail}
 use Rattle.hl_model.specs.Settled.{closed}
 use Rattle.hl_model.specs.Sizes.{Sizes}
 use Rattle.hl_history.specs.declared.view.Entry.{Entry}
-use Rattle.hl_history.specs.Lists.{Begins, left_by, IsOf}
+use Rattle.hl_history.specs.Lists.{Begins, left_by}
 use Rattle.hl_words.specs.declared.view.Extent.{Extent}
 use Rattle.hl_words.specs.declared.view.RiderView.{RiderView}
 use Rattle.hl_words.specs.declared.view.Touch.{Touch}
@@ -26,13 +26,12 @@ use Rattle.hl_images.specs.Entered.{newest_writes}
 use Rattle.hl_images.specs.Flushes.{HasFlushed}
 use Rattle.hl_images.proofs.ImageLaws.{flushed_by}
 use Rattle.hl_images.proofs.PlaceLaws.{every_both}
-use Rattle.hl_images.proofs.WordLaws.{calls_at}
 use Rattle.hl_images.proofs.WriterLaws.{writes_both}
 use Rattle.hl_memory.specs.Acts.{is_of_pages, in_cell, in_cells, IsPut, IsWriteAt, IsZeroAt, AreActs, AreActsOf, IsHistory}
 use Rattle.hl_memory.specs.Memory.{AreOpen}
 use Rattle.hl_memory.specs.OneTrace.{ActBy, acts_by, left_at, PlacesNone, Serves, HasOneTrace, TracesAreOne, page_left}
 use Rattle.hl_memory.specs.Traces.{places, by_address, acts_of, trace, RiderTraces}
-use Rattle.hl_memory.proofs.ActLaws.{cells_both}
+use Rattle.hl_memory.proofs.ActLaws.{cells_both, of_one_list, tied_of}
 use Rattle.hl_memory.proofs.EndLaws.{open_at_end, loaded_at, words_are_memory}
 use Rattle.hl_memory.proofs.FateLaws.{put_tied}
 use Rattle.hl_memory.proofs.FindLaws.{act_is, find_act, IsEntering, ties as acts_tied}
@@ -91,9 +90,6 @@ module _ (F : Type 0) (sizes : Sizes) (riders : List RiderState) (ending : Endin
   abbrev whole : List Step
   whole = ends.steps_cut ++ ending.journal
 
-  of : (i : ℕ) (r : RiderState) → slice_get riders i ≡ Some r → IsOf (ends.steps_cut ++ ending.journal) r.calls
-  of i r at = every_at (IsOf (ends.steps_cut ++ ending.journal)) (map (λ (z : RiderState). z.calls) riders) ends.one_list.each i r.calls (calls_at riders i r at)
-
   -- these are the acts of a rider, which has those of its trace if it is a thread
   abbrev Chosen : ℕ → List Touch → Option RiderState → Type 0
   Chosen i acts None = acts ≡ []
@@ -143,8 +139,8 @@ module _ (F : Type 0) (sizes : Sizes) (riders : List RiderState) (ending : Endin
   -- the acts of a rider and its calls
   acts_begin : (i : ℕ) (r : RiderState) → slice_get riders i ≡ Some r → AreTied (touches_of i history_is.0) r.calls × Every (λ (e : Entry). Begins (left_by e) (ends.steps_cut ++ ending.journal)) r.calls
   acts_begin i r at =
-      let begins = (of i r at).begins in
-      (acts_tied sizes whole r (touches_of i history) (its.each i r at) begins (every_at (λ (z : RiderState). AreTied z.view.touches z.calls) riders ends.tied i r at), begins)
+      let begins = (of_one_list whole riders ends.one_list i r at).begins in
+      (acts_tied sizes whole r (touches_of i history) (its.each i r at) begins (tied_of riders ends.tied i r at), begins)
 
   -- no others place records
   abbrev NoOthers : Type 0

@@ -17,7 +17,6 @@ use Rattle.hl_words.specs.declared.view.Touch.{Touch}
 use Rattle.hl_words.specs.declared.view.Touch.TheVariants.{Stored, Loaded, Changed, Called, Looked, Met}
 use Rattle.hl_words.specs.Rule.{TouchBy, by_rider, held, touches_of, Finds, IsSerial}
 use Rattle.hl_words.specs.States.{RiderState, AreTied}
-use Rattle.hl_words.proofs.Cut.{every_at}
 use Rattle.hl_words.proofs.Orders.{there, own_more, other_more}
 use Rattle.hl_words.proofs.PastProofs.{serial_end, touches_both}
 use Rattle.hl_keeper.specs.Endings.{EndingState}
@@ -27,11 +26,11 @@ use Rattle.hl_laws.proofs.BoundLaws.{closed-le-head}
 use Rattle.hl_laws.proofs.PageFacts.{head-le-flushed, flushed-le-safe_read_only}
 use Rattle.hl_images.proofs.PlaceLaws.{begun, every_in, same_begin, shorter}
 use Rattle.hl_images.proofs.SealedLaws.{later_stays_above}
-use Rattle.hl_images.proofs.WordLaws.{calls_at, view_at, whose_view}
+use Rattle.hl_images.proofs.WordLaws.{view_at, whose_view}
 use Rattle.hl_images.proofs.WriterLaws.{next_call}
 use Rattle.hl_memory.specs.Acts.{in_cell, in_cells, AreActsOf, IsHistory}
 use Rattle.hl_memory.specs.Memory.{HasGrown, HasNoneLeft, IsOpen, AreOpen, FindsMemory, FindMemory, ChangesFindMemory, OpenFindMemory, HistoriesStand, OneMemory}
-use Rattle.hl_memory.proofs.ActLaws.{cells_both, call_at}
+use Rattle.hl_memory.proofs.ActLaws.{cells_both, call_at, of_one_list, tied_of}
 use Rattle.hl_memory.proofs.FindLaws.{IsEntering, Waits, Calls, find_at, ties, all_calls}
 use Rattle.hl_memory.proofs.LoadLaws.{OpenThere, open_cell, grown_here, none_here}
 
@@ -78,8 +77,8 @@ pub none_at_end : (F : Type 0) (sizes : Sizes) (riders : List RiderState) (endin
 none_at_end F sizes riders ending ends before j met left q later past here is more =
     let whole = ends.steps_cut ++ ending.journal in
     let w = whose_view riders j q here in
-    let of : IsOf whole w.0.calls = every_at (IsOf whole) (map (λ (z : RiderState). z.calls) riders) ends.one_list.each j w.0.calls (calls_at riders j w.0 w.1) in
-    let tied : AreTied (later ++ Called met left ∷ past) w.0.calls = subst (λ (l : List Touch). AreTied l w.0.calls) (ap (λ (z : RiderView). z.touches) w.2 ∙ is) (every_at (λ (z : RiderState). AreTied z.view.touches z.calls) riders ends.tied j w.0 w.1) in
+    let of : IsOf whole w.0.calls = of_one_list whole riders ends.one_list j w.0 w.1 in
+    let tied : AreTied (later ++ Called met left ∷ past) w.0.calls = subst (λ (l : List Touch). AreTied l w.0.calls) (ap (λ (z : RiderView). z.touches) w.2 ∙ is) (tied_of riders ends.tied j w.0 w.1) in
     let c = call_at (λ (e : Entry). Begins (left_by e) whole) later met left past w.0.calls tied of.begins in
     absurd (omega (arith, more, c.2, ap length c.3.1, length-append (left_by c.0) c.3.0))
 
@@ -97,12 +96,6 @@ module _ (F : Type 0) (sizes : Sizes) (riders : List RiderState) (ending : Endin
     (its : IsHistory sizes (ends.steps_cut ++ ending.journal) riders ends.ruled.rule.order.0 history) where
   abbrev whole : List Step
   whole = ends.steps_cut ++ ending.journal
-
-  of : (i : ℕ) (r : RiderState) → slice_get riders i ≡ Some r → IsOf (ends.steps_cut ++ ending.journal) r.calls
-  of i r at = every_at (IsOf (ends.steps_cut ++ ending.journal)) (map (λ (z : RiderState). z.calls) riders) ends.one_list.each i r.calls (calls_at riders i r at)
-
-  tied_at : (i : ℕ) (r : RiderState) → slice_get riders i ≡ Some r → AreTied r.view.touches r.calls
-  tied_at i r at = every_at (λ (z : RiderState). AreTied z.view.touches z.calls) riders ends.tied i r at
 
   -- where the address of a rider's act is open, it is so at the act's place
   pub open_there : (i : ℕ) (newer before : List TouchBy) (t : Touch) (a : ℕ) → history ≡ newer ++ by_rider i t ∷ before → OpenAt sizes (Calls (ends.steps_cut ++ ending.journal)) (closed (ends.steps_cut ++ ending.journal)) (touches_of i newer) (touches_of i before) a
@@ -170,7 +163,7 @@ module _ (F : Type 0) (sizes : Sizes) (riders : List RiderState) (ending : Endin
       let r = whose_act i newer before (Changed a found v) is in
       let acts = touches_of i history in
       let ys = touches_of i before in
-      let f = find_at sizes whole r.0 acts (its.each i r.0 r.1) (of i r.0 r.1).begins (tied_at i r.0 r.1) (touches_of i newer) (Changed a found v) ys (own_at i newer before (Changed a found v) is) in
+      let f = find_at sizes whole r.0 acts (its.each i r.0 r.1) (of_one_list whole riders ends.one_list i r.0 r.1).begins (tied_of riders ends.tied i r.0 r.1) (touches_of i newer) (Changed a found v) ys (own_at i newer before (Changed a found v) is) in
       let w = f.entered in
       let d = w.3 in
       let opens : (low : ℕ) → low ≤ a → IsOpen sizes a f.calls low = λ low le. (d.2, d.3, d.4, d.5, le) in
@@ -194,11 +187,11 @@ module _ (F : Type 0) (sizes : Sizes) (riders : List RiderState) (ending : Endin
       → OpenAt sizes (Calls (ends.steps_cut ++ ending.journal)) (closed (ends.steps_cut ++ ending.journal)) (touches_of i newer) (touches_of i before) a
   load_open i r at opens newer before a v parts =
       let are = its.each i r at in
-      let begins = (of i r at).begins in
+      let begins = (of_one_list whole riders ends.one_list i r at).begins in
       let own = own_at i newer before (Loaded a v) parts in
-      let tied = ties sizes whole r (touches_of i history) are begins (tied_at i r at) in
+      let tied = ties sizes whole r (touches_of i history) are begins (tied_of riders ends.tied i r at) in
       find_open sizes (Calls whole) (closed whole) a v (touches_of i before) [] (touches_of i newer) r.calls (closed whole) (subst (λ (l : List Touch). AreOpen sizes l r.calls (closed whole)) own opens) (subst (λ (l : List Touch). AreTied l r.calls) own tied)
-      (all_calls sizes whole r (touches_of i history) are begins (tied_at i r at)) (inl refl)
+      (all_calls sizes whole r (touches_of i history) are begins (tied_of riders ends.tied i r at)) (inl refl)
 
   open_finds : (i : ℕ) (r : RiderState) → slice_get riders i ≡ Some r → AreOpen sizes (touches_of i history) r.calls (closed (ends.steps_cut ++ ending.journal)) → FindMemory i history
   open_finds i r at opens newer before act is = by act is

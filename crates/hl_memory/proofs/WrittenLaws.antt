@@ -11,7 +11,7 @@ use Rattle.hl_model.specs.Settled.{safe_read_only}
 use Rattle.hl_model.specs.Sizes.{Sizes}
 use Rattle.hl_model.specs.Words.{written_at}
 use Rattle.hl_history.specs.declared.view.Entry.{Entry}
-use Rattle.hl_history.specs.Lists.{Begins, entry, left_by, IsOf}
+use Rattle.hl_history.specs.Lists.{Begins, entry, left_by}
 use Rattle.hl_words.specs.declared.view.Extent.{Extent}
 use Rattle.hl_words.specs.declared.view.RiderView.{RiderView}
 use Rattle.hl_words.specs.declared.view.Touch.{Touch}
@@ -19,7 +19,6 @@ use Rattle.hl_words.specs.declared.view.Touch.TheVariants.{Stored, Changed, Call
 use Rattle.hl_words.specs.Past.{HasCalls, HasNoCalls}
 use Rattle.hl_words.specs.Rule.{last_store, TouchBy, by_rider, touches_of}
 use Rattle.hl_words.specs.States.{RiderState, AreTied}
-use Rattle.hl_words.proofs.Cut.{every_at}
 use Rattle.hl_words.proofs.Orders.{own_more}
 use Rattle.hl_words.proofs.PastProofs.{touches_both}
 use Rattle.hl_keeper.specs.Endings.{EndingState}
@@ -28,11 +27,11 @@ use Rattle.hl_images.specs.Images.{IsImaged}
 use Rattle.hl_images.specs.Writes.{WritesNothing, CallsWriteNothing, LastWrites}
 use Rattle.hl_images.proofs.PlaceLaws.{every_in, same_begin, shorter, cleans_later}
 use Rattle.hl_images.proofs.TakenLaws.{sealed_whole, low_call}
-use Rattle.hl_images.proofs.WordLaws.{calls_at, view_at}
+use Rattle.hl_images.proofs.WordLaws.{view_at}
 use Rattle.hl_images.proofs.WriterLaws.{newest_step, early, early_calls}
 use Rattle.hl_memory.specs.Acts.{in_cell, in_cells, IsPut, IsWriteAt, NoneOfPages, AreActs, IsHistory}
 use Rattle.hl_memory.specs.Images.{ImagesStay}
-use Rattle.hl_memory.proofs.ActLaws.{acts_both, acts_long, own_cells}
+use Rattle.hl_memory.proofs.ActLaws.{acts_both, acts_long, own_cells, of_one_list, tied_of}
 use Rattle.hl_memory.proofs.CutLaws.{IsZeroed, ActsCut, cut_acts}
 use Rattle.hl_memory.proofs.FindLaws.{Calls, ties, all_calls}
 use Rattle.hl_memory.proofs.OpenLaws.{whose_act}
@@ -141,12 +140,6 @@ module _ (F : Type 0) (sizes : Sizes) (riders : List RiderState) (ending : Endin
   abbrev views : List RiderView
   views = map (λ (q : RiderState). q.view) riders
 
-  begins : (j : ℕ) (r : RiderState) → slice_get riders j ≡ Some r → Every (λ (e : Entry). Begins (left_by e) (i.ends.steps_cut ++ ending.journal)) r.calls
-  begins j r at = (every_at (IsOf whole) (map (λ (z : RiderState). z.calls) riders) i.ends.one_list.each j r.calls (calls_at riders j r at)).begins
-
-  tied_at : (j : ℕ) (r : RiderState) → slice_get riders j ≡ Some r → AreTied r.view.touches r.calls
-  tied_at j r at = every_at (λ (z : RiderState). AreTied z.view.touches z.calls) riders i.ends.tied j r at
-
   split : (j : ℕ) → touches_of j history ≡ touches_of j newer ++ touches_of j before
   split j = ap (touches_of j) parts ∙ touches_both j newer before
 
@@ -172,9 +165,9 @@ module _ (F : Type 0) (sizes : Sizes) (riders : List RiderState) (ending : Endin
       let acts = its.each j r at in
       let end : (page + 1) * sizes.page_size ≡ page * sizes.page_size + sizes.page_size = omega arith in
       let low : a < safe_read_only whole = omega (arith, sealed_whole sizes whole page_some frames_some i.ends.accepted page k inside i.list i.later i.taken i.take i.done, end, inside) in
-      let tied = ties sizes whole r (touches_of j history) acts (begins j r at) (tied_at j r at) in
+      let tied = ties sizes whole r (touches_of j history) acts (of_one_list whole riders i.ends.one_list j r at).begins (tied_of riders i.ends.tied j r at) in
       cut_acts sizes a (touches_of j history) (touches_of j before) r.calls (Calls whole) (late j r at) [] (touches_of j newer) [] r.calls acts.waiting (split j) refl tt tt
-      (subst (λ (l : List Touch). AreActs sizes l r.calls acts.waiting) (split j) acts.entered) (subst (λ (l : List Touch). AreTied l r.calls) (split j) tied) (all_calls sizes whole r (touches_of j history) acts (begins j r at) (tied_at j r at))
+      (subst (λ (l : List Touch). AreActs sizes l r.calls acts.waiting) (split j) acts.entered) (subst (λ (l : List Touch). AreTied l r.calls) (split j) tied) (all_calls sizes whole r (touches_of j history) acts (of_one_list whole riders i.ends.one_list j r at).begins (tied_of riders i.ends.tied j r at))
       (all_silent a (safe_read_only whole) acts.waiting acts.above low)
 
   -- what it did behind the place
