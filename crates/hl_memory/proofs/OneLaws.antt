@@ -1,5 +1,5 @@
 -- What all threads did is one trace, and the words and the images are its memory.
-use Rattle.std.proofs.Common.{◌≡◌, ℕ, zero, suc, ◌+◌, ◌*◌, ◌<◌, ◌⊎◌, Bool, true, false, List, [], ◌∷◌, ◌++◌, length, map, refl, ap, sym, ◌∙◌, ⊎_elim, subst, arith, append_assoc}
+use Rattle.std.proofs.Common.{◌≡◌, ◌≤◌, ℕ, zero, suc, ◌+◌, ◌*◌, ◌<◌, ◌⊎◌, Bool, true, false, List, [], ◌∷◌, ◌++◌, length, map, refl, ap, sym, ◌∙◌, ⊎_elim, subst, arith, append_assoc}
 use Rattle.std.specs.Prelude.{Option, Some, None, slice_get}
 use Rattle.std.specs.List.{AllByRecursion as Every, list_any, range_with_len}
 use Rattle.std.proofs.lemmas.List.{append-nil}
@@ -35,7 +35,8 @@ use Rattle.hl_memory.proofs.ActLaws.{cells_both, of_one_list, tied_of}
 use Rattle.hl_memory.proofs.EndLaws.{open_at_end, loaded_at, words_are_memory}
 use Rattle.hl_memory.proofs.FateLaws.{put_tied}
 use Rattle.hl_memory.proofs.FindLaws.{act_is, find_act, IsEntering, ties as acts_tied}
-use Rattle.hl_memory.proofs.BeyondLaws.{PutsBelow, none_of_other, puts_below, nothing_beyond}
+use Rattle.hl_memory.proofs.AppendLaws.{LeavesOnly}
+use Rattle.hl_memory.proofs.BeyondLaws.{none_of_other, puts_below, nothing_beyond}
 use Rattle.hl_memory.proofs.JoinLaws.{either, not_both, joined, dropped, all_dropped, joined_theirs, joined_each, OnlyThreads, NoneByThreads, joined_leaves, joined_behind, Ties, own_ties, lower_ties, Stands, stands_none, Standing, past_own, past_other, shown_by}
 use Rattle.hl_memory.proofs.KeepLaws.{acts_are_kept, acts_from}
 use Rattle.hl_memory.proofs.LoadLaws.{OpenThere, open_cell, open_unswept}
@@ -275,26 +276,26 @@ module _ (F : Type 0) (sizes : Sizes) (riders : List RiderState) (ending : Endin
       let f = flushed_by F sizes riders ending i page image r ends at flushed in
       word_by_word (λ a. left_at a (joined sizes is_thread history_is.0 (λ j. calls_of (slice_get riders j)))) image (page * sizes.page_size) sizes.page_size f.0.places (λ k v there. page_word i page k v image r at flushed there)
 
-  -- each rider's own acts store below the tail
-  own_below : (i : ℕ) → Every (PutsBelow (tail sizes (ends.steps_cut ++ ending.journal))) (acts_by i (joined sizes is_thread history_is.0 (λ j. calls_of (slice_get riders j))))
-  own_below i = ⊎_elim low high (either (is_thread i))
+  -- each rider's own acts store nothing at the tail or beyond
+  own_below : (a : ℕ) → tail sizes (ends.steps_cut ++ ending.journal) ≤ a → (i : ℕ) → Every (LeavesOnly a 0) (acts_by i (joined sizes is_thread history_is.0 (λ j. calls_of (slice_get riders j))))
+  own_below a far_off i = ⊎_elim low high (either (is_thread i))
     where
       all : List ActBy
       all = joined sizes is_thread history_is.0 (λ j. calls_of (slice_get riders j))
 
-      high : is_thread i ≡ false → Every (PutsBelow (tail sizes (ends.steps_cut ++ ending.journal))) (acts_by i (joined sizes is_thread history_is.0 (λ j. calls_of (slice_get riders j))))
-      high far = subst (Every (PutsBelow (tail sizes whole))) (sym (none_of_other is_thread i all far (joined_theirs sizes is_thread history_is.0 (λ j. calls_of (slice_get riders j))))) tt
+      high : is_thread i ≡ false → Every (LeavesOnly a 0) (acts_by i (joined sizes is_thread history_is.0 (λ j. calls_of (slice_get riders j))))
+      high far = subst (Every (LeavesOnly a 0)) (sym (none_of_other is_thread i all far (joined_theirs sizes is_thread history_is.0 (λ j. calls_of (slice_get riders j))))) tt
 
-      low : is_thread i ≡ true → Every (PutsBelow (tail sizes (ends.steps_cut ++ ending.journal))) (acts_by i (joined sizes is_thread history_is.0 (λ j. calls_of (slice_get riders j))))
+      low : is_thread i ≡ true → Every (LeavesOnly a 0) (acts_by i (joined sizes is_thread history_is.0 (λ j. calls_of (slice_get riders j))))
       low own = by (slice_get riders i) refl
         where
-          by : (o : Option RiderState) → slice_get riders i ≡ o → Every (PutsBelow (tail sizes (ends.steps_cut ++ ending.journal))) (acts_by i (joined sizes is_thread history_is.0 (λ j. calls_of (slice_get riders j))))
+          by : (o : Option RiderState) → slice_get riders i ≡ o → Every (LeavesOnly a 0) (acts_by i (joined sizes is_thread history_is.0 (λ j. calls_of (slice_get riders j))))
           by (Some r) at =
               let t = first i r own at in
               let plain = every_both (λ (e : Entry). Begins (left_by e) whole) (λ (e : Entry). list_any is_of_pages e.steps ≡ false) r.calls (acts_begin i r at).1 t.pages in
-              subst (Every (PutsBelow (tail sizes whole))) (sym (each_own i r own at)) (puts_below sizes page_some whole (by_address sizes r.view.touches r.calls) r.calls [] t.acts.entered plain)
+              subst (Every (LeavesOnly a 0)) (sym (each_own i r own at)) (puts_below sizes page_some whole a far_off (by_address sizes r.view.touches r.calls) r.calls [] t.acts.entered plain)
           by None at =
-              subst (Every (PutsBelow (tail sizes whole)))
+              subst (Every (LeavesOnly a 0))
               (sym (joined_each sizes is_thread i own history_is.0 (λ j. calls_of (slice_get riders j))
               ∙ ap (λ (l : List Touch). acts_of sizes l (calls_of (slice_get riders i))) (history_is.2 i ∙ none_chosen i at)))
               tt
@@ -309,7 +310,7 @@ module _ (F : Type 0) (sizes : Sizes) (riders : List RiderState) (ending : Endin
         words_are_memory F sizes riders ending ends page_some frames_some history its a below unclosed
         ∙ kept [] history a (λ i. calls_of (slice_get riders i)) refl (open_at_end F sizes riders ending ends history its a below unclosed);
     placed = stands.placed;
-    beyond = λ a far. nothing_beyond sizes page_some whole a all_acts far own_below;
+    beyond = λ a far. nothing_beyond sizes page_some whole a far all_acts (own_below a far);
     pages = page_is;
   }
 

@@ -60,7 +60,7 @@ placed_apart i j a m b n (t ∷ before) apart one at_a at_b =
     below c k d l h is has = every_has (EndsBelow c) (Placed d l) (acts_by h before) (every_own (EndsBelow c) h before (subst (Follows before) is one.0)) has
 
 -- where all stores leave the same, that is left, or 0
-found_one : (a v : ℕ) (all : List ActBy) → Every (λ (t : ActBy). LeavesOnly a v t.act) all → (left_at a all ≡ 0) ⊎ (left_at a all ≡ v)
+pub found_one : (a v : ℕ) (all : List ActBy) → Every (λ (t : ActBy). LeavesOnly a v t.act) all → (left_at a all ≡ 0) ⊎ (left_at a all ≡ v)
 found_one a v [] only = inl refl
 found_one a v (t ∷ before) only =
     let sooner = found_one a v before only.1 in
