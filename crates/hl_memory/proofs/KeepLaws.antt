@@ -1,10 +1,10 @@
 -- The acts of riders stay what they are, by all that passes do.
-use Rattle.std.proofs.Common.{◌≡◌, ℕ, ◌+◌, ◌-◌, ◌*◌, ◌/◌, ◌%◌, ◌<◌, ◌≤◌, leb, ltb, eqb, true, false, List, [], ◌∷◌, ◌++◌, length, map, Some, None, refl, ap, sym, ◌∙◌, inl, inr, ⊎_elim, subst, arith}
+use Rattle.std.proofs.Common.{◌≡◌, ℕ, ◌+◌, ◌-◌, ◌*◌, ◌/◌, ◌<◌, ◌≤◌, leb, ltb, eqb, true, false, List, [], ◌∷◌, ◌++◌, length, map, Some, None, refl, ap, sym, ◌∙◌, inl, inr, subst, arith}
 use Rattle.std.specs.Prelude.{Bool, if◌then◌else◌, nat_lt, ◌||◌, ◌&&◌, max}
-use Rattle.std.proofs.lemmas.Bool.{leb-false, ltb-false, cases_lt}
+use Rattle.std.proofs.lemmas.Bool.{leb-false, ltb-false}
 use Rattle.std.proofs.lemmas.List.{append-nil}
-use Rattle.std.proofs.lemmas.Nat.{div-mul-add, mod-mul-add}
-use Rattle.std.proofs.Math.Nat.{div-add-mod, div-mul-le_self, mul-le-mul_right}
+use Rattle.std.proofs.lemmas.Nat.{div-mul-add}
+use Rattle.std.proofs.Math.Nat.{mod-eq_of_lt}
 use Rattle.hl_model.specs.declared.fault.Fault.TheVariants.{Beyond, Evicted}
 use Rattle.hl_model.specs.declared.step.Step.{Step}
 use Rattle.hl_model.specs.declared.step.Step.TheVariants.{Acquire, Refresh, Release, Look, Write}
@@ -33,7 +33,7 @@ use Rattle.hl_laws.proofs.NoFaultLaws.{later_fault, or_fault-none}
 use Rattle.hl_laws.proofs.PageFacts.{head-le-flushed, flushed-le-safe_read_only}
 use Rattle.hl_images.specs.Entered.{newest_writes, AreEntered, LoadsWithin}
 use Rattle.hl_images.specs.Kept.{PassEnters}
-use Rattle.hl_images.proofs.CellLaws.{cell_of_place}
+use Rattle.hl_images.proofs.CellLaws.{cell_is, cell_of_place}
 use Rattle.hl_images.proofs.KeptLaws.{passes_stay_entered, riders_stay_entered, more_waits, no_more_waits, still_waits, waits_above}
 use Rattle.hl_images.proofs.WriterLaws.{writes_both}
 use Rattle.hl_memory.specs.Acts.{in_cell, IsWriteAt, AreActs, AreActsOf}
@@ -234,18 +234,7 @@ module _ (sizes : Sizes) where
 
 -- a cell is that of its own number
 cell_same : (sizes : Sizes) (d : ℕ) → 0 < sizes.page_size → 0 < sizes.frames → d < sizes.frames * sizes.page_size → cell_at sizes d ≡ d
-cell_same sizes d page_some frames_some less =
-    let page = d / sizes.page_size in
-    let low : page < sizes.frames =
-    ⊎_elim (λ (lt : page < sizes.frames). lt)
-    (λ (ge : sizes.frames ≤ page).
-    let more : sizes.frames * sizes.page_size ≤ page * sizes.page_size = mul-le-mul_right sizes.page_size ge in
-    absurd (omega (arith, less, more, div-mul-le_self d sizes.page_size)))
-    (cases_lt page sizes.frames) in
-    let first : page ≡ 0 * sizes.frames + page = omega arith in
-    let small : page % sizes.frames ≡ page = ap (λ (x : ℕ). x % sizes.frames) first ∙ mod-mul-add 0 sizes.frames page low in
-    let swap : sizes.page_size * page ≡ page * sizes.page_size = omega arith in
-    ap (λ (x : ℕ). x * sizes.page_size + d % sizes.page_size) small ∙ omega (arith, div-add-mod d sizes.page_size, swap)
+cell_same sizes d page_some frames_some less = sym (cell_is sizes d page_some frames_some) ∙ mod-eq_of_lt less
 
 module _ (sizes : Sizes) (page_some : 0 < sizes.page_size) (frames_some : 0 < sizes.frames) where
   abbrev pub Acts : List Touch → List Entry → List Step → Type 0

@@ -4,8 +4,8 @@ use Rattle.std.specs.Prelude.{cond, if◌then◌else◌}
 use Rattle.std.specs.List.{AllByRecursion as Every, list_any}
 use Rattle.std.proofs.lemmas.Bool.{cases_lt, eq-eqb, or_right}
 use Rattle.std.proofs.lemmas.List.{append-nil}
-use Rattle.std.proofs.lemmas.Nat.{div-mul-add, mod-mul-add}
-use Rattle.std.proofs.Math.Nat.{div-add-mod, lt-div-mul-add, mod-lt}
+use Rattle.std.proofs.lemmas.Nat.{div-add-mod', div-mul-add}
+use Rattle.std.proofs.Math.Nat.{add-mod_right, add-mul-div_right, lt-div-mul-add}
 use Rattle.hl_model.specs.declared.step.Step.{Step}
 use Rattle.hl_model.specs.declared.step.Step.TheVariants.{Acquire, Refresh, Release, Allocate, Look, Write}
 use Rattle.hl_model.specs.declared.view.View.{View}
@@ -35,6 +35,7 @@ use Rattle.hl_keeper.proofs.PassLaws.{store_lawful}
 use Rattle.hl_keeper.proofs.TouchLaws.{touches_rise}
 use Rattle.hl_domain.specs.Domains.{with_entry, with_held}
 use Rattle.hl_images.specs.Entered.{is_touch}
+use Rattle.hl_images.proofs.CellLaws.{cell_is}
 use Rattle.hl_images.proofs.KeptLaws.{are_touches}
 use Rattle.hl_memory.specs.declared.act.Act.{Act}
 use Rattle.hl_memory.specs.declared.act.Act.TheVariants.{Stored, Loaded, Changed, Met}
@@ -94,43 +95,22 @@ module _ (sizes : Sizes) where
   none_end (x ∷ xs) s all last = ((touch_is sizes [] x all.0).1, none_end xs s all.1 last)
 
   module _ (page_some : 0 < sizes.page_size) (frames_some : 0 < sizes.frames) where
-    -- an address in rounds of all frames
-    in_rounds : (a : ℕ) → a ≡ a / sizes.page_size / sizes.frames * (sizes.frames * sizes.page_size) + cell_at sizes a
-    in_rounds a =
-        let p = a / sizes.page_size in
-        let q = p / sizes.frames in
-        let r = p % sizes.frames in
-        let swap : sizes.page_size * p ≡ p * sizes.page_size = omega arith in
-        let turn : sizes.frames * q ≡ q * sizes.frames = omega arith in
-        let page : p ≡ q * sizes.frames + r = omega (arith, div-add-mod p sizes.frames, turn) in
-        let spread : (q * sizes.frames + r) * sizes.page_size ≡ q * (sizes.frames * sizes.page_size) + r * sizes.page_size = omega arith in
-        let all : p * sizes.page_size ≡ (q * sizes.frames + r) * sizes.page_size = ap (λ (x : ℕ). x * sizes.page_size) page in
-        omega (arith, div-add-mod a sizes.page_size, swap, all, spread)
-
     -- an address not a round below an end is the newest of its cell there
     address_found : (a end : ℕ) → a < end → end ≤ a + sizes.frames * sizes.page_size → address_of sizes (cell_at sizes a) end ≡ a
     address_found a end above near =
         let round = sizes.frames * sizes.page_size in
-        let q = a / sizes.page_size / sizes.frames in
-        let is = in_rounds a in
+        let is : a / round * round + cell_at sizes a ≡ a = ap (λ (x : ℕ). a / round * round + x) (sym (cell_is sizes a page_some frames_some)) ∙ div-add-mod' a round in
         let rest = end - 1 - a in
-        let small : rest < sizes.frames * sizes.page_size = omega (arith, above, near) in
-        let parts : end - 1 - cell_at sizes a ≡ q * (sizes.frames * sizes.page_size) + rest = omega (arith, is, above) in
-        ap (λ (x : ℕ). x / round * round + cell_at sizes a) parts ∙ ap (λ (x : ℕ). x * round + cell_at sizes a) (div-mul-add q round rest small) ∙ sym is
+        let parts : end - 1 - cell_at sizes a ≡ a / round * round + rest = omega (arith, is, above) in
+        ap (λ (x : ℕ). x / round * round + cell_at sizes a) parts ∙ ap (λ (x : ℕ). x * round + cell_at sizes a) (div-mul-add (a / round) round rest (omega (arith, above, near))) ∙ is
 
     -- no address that isn't closed lies a round below the tail
     near_tail : (A : List Step) → IsAccepted sizes A → (a : ℕ) → closed A ≤ a → tail sizes A ≤ a + sizes.frames * sizes.page_size
     near_tail A ok a low =
         let p = a / sizes.page_size in
         let x = a + sizes.frames * sizes.page_size in
-        let swap : sizes.page_size * p ≡ p * sizes.page_size = omega arith in
-        let spread : (p + sizes.frames) * sizes.page_size ≡ p * sizes.page_size + sizes.frames * sizes.page_size = omega arith in
-        let x_is : x ≡ (p + sizes.frames) * sizes.page_size + a % sizes.page_size = omega (arith, div-add-mod a sizes.page_size, swap, spread) in
-        let page : x / sizes.page_size ≡ p + sizes.frames = ap (λ (z : ℕ). z / sizes.page_size) x_is ∙ div-mul-add (p + sizes.frames) sizes.page_size (a % sizes.page_size) (mod-lt a page_some) in
-        let turn : sizes.frames * (p / sizes.frames) ≡ p / sizes.frames * sizes.frames = omega arith in
-        let more : (p / sizes.frames + 1) * sizes.frames ≡ p / sizes.frames * sizes.frames + sizes.frames = omega arith in
-        let next : p + sizes.frames ≡ (p / sizes.frames + 1) * sizes.frames + p % sizes.frames = omega (arith, div-add-mod p sizes.frames, turn, more) in
-        let frame : x / sizes.page_size % sizes.frames ≡ p % sizes.frames = ap (λ (z : ℕ). z % sizes.frames) (page ∙ next) ∙ mod-mul-add (p / sizes.frames + 1) sizes.frames (p % sizes.frames) (mod-lt p frames_some) in
+        let page : x / sizes.page_size ≡ p + sizes.frames = add-mul-div_right a sizes.frames page_some in
+        let frame : x / sizes.page_size % sizes.frames ≡ p % sizes.frames = ap (λ (z : ℕ). z % sizes.frames) page ∙ add-mod_right p sizes.frames in
         ⊎_elim
         (λ (far : x < tail sizes A).
         let freed = freed_below sizes A page_some frames_some ok x A ([], sym (append-nil A)) far p (omega (arith, page, frames_some)) (sym frame) in
@@ -139,26 +119,22 @@ module _ (sizes : Sizes) where
         (λ (near : tail sizes A ≤ x). near)
         (cases_lt x (tail sizes A))
 
+    -- so an address that a pass may touch is the newest of its cell
+    found : (a : ℕ) (p : PassRecord) → PassTraces sizes p → (list : List Step) → tail_met sizes p.rider.calls ≡ tail sizes list → IsAccepted sizes list → closed list ≤ a → a < tail sizes list → address_of sizes (cell_at sizes a) (tail_met sizes p.rider.calls) ≡ a
+    found a p h list met ok low high = ap (address_of sizes (cell_at sizes a)) met ∙ address_found a (tail sizes list) high (near_tail list ok a low)
+
   -- an address that a pass may store at, and one that it may load
   store_found : (a : ℕ) (p : PassRecord) → store_fault p a ≡ None → PassTraces sizes p → address_of sizes (cell_at sizes a) (tail_met sizes p.rider.calls) ≡ a
   store_found a p fault h =
       let lawful = store_lawful p a 0 fault in
       let rise = touches_rise p.slot p.held p.touches h.acts.enters.touches in
-      let same : (seen p).tail ≡ p.held.tail = rise.2 in
-      let up : p.held.read_only ≤ (seen p).read_only = rise.0 in
-      let low : closed h.list ≤ a = omega (arith, lawful.1, up, h.read_only) in
-      let high : a < tail sizes h.list = omega (arith, lawful.2, same, h.sees) in
-      ap (address_of sizes (cell_at sizes a)) h.met ∙ address_found h.page_some h.frames_some a (tail sizes h.list) high (near_tail h.page_some h.frames_some h.list h.accepted a low)
+      found h.page_some h.frames_some a p h h.list h.met h.accepted (omega (arith, lawful.1, rise.0, h.read_only)) (omega (arith, lawful.2, rise.2, h.sees))
 
   load_found : (a : ℕ) (p : PassRecord) → load_fault p a ≡ None → PassTraces sizes p → address_of sizes (cell_at sizes a) (tail_met sizes p.rider.calls) ≡ a
   load_found a p fault h =
       let lawful = load_lawful p a fault in
       let rise = touches_rise p.slot p.held p.touches h.acts.enters.touches in
-      let same : (seen p).tail ≡ p.held.tail = rise.2 in
-      let up : p.held.head ≤ (seen p).head = rise.1 in
-      let low : closed h.list ≤ a = omega (arith, lawful.0, up, h.head) in
-      let high : a < tail sizes h.list = omega (arith, lawful.1, same, h.sees) in
-      ap (address_of sizes (cell_at sizes a)) h.met ∙ address_found h.page_some h.frames_some a (tail sizes h.list) high (near_tail h.page_some h.frames_some h.list h.accepted a low)
+      found h.page_some h.frames_some a p h h.list h.met h.accepted (omega (arith, lawful.0, rise.1, h.head)) (omega (arith, lawful.1, rise.2, h.sees))
 
   -- a new rider did nothing
   pub new_traces : (name : ℕ) → RiderTraces sizes (new_rider name)
