@@ -2,7 +2,8 @@
 use Rattle.std.proofs.Common.{◌≡◌, ℕ, ◌+◌, ◌*◌, ◌/◌, ◌<◌, ◌≤◌, true, List, [], ◌∷◌, ◌++◌, length, map, Some, slice_get, refl, ap, sym, ◌∙◌, ⊎_elim, subst, arith, append_assoc, length-append}
 use Rattle.std.proofs.lemmas.Bool.{both_ways, cases_lt}
 use Rattle.std.proofs.lemmas.List.{append-nil}
-use Rattle.std.proofs.Math.Nat.{div-add-mod, div-mul-le_self, mul-le-mul_right}
+use Rattle.std.proofs.lemmas.Nat.{div-add-mod'}
+use Rattle.std.proofs.Math.Nat.{mul-le-mul_right}
 use Rattle.std.proofs.lemmas.Option.{slice_get_within}
 use Rattle.hl_model.specs.declared.step.Step.{Step}
 use Rattle.hl_model.specs.declared.step.Step.TheVariants.{FlushTake, FlushDone}
@@ -74,14 +75,12 @@ cells_cut sizes (x ∷ xs) ys (t ∷ history) e =
 -- a page that isn't flushed is not closed
 not_closed : (sizes : Sizes) (A : List Step) (p : ℕ) → 0 < sizes.page_size → IsAccepted sizes A → (((p + 1) * sizes.page_size ≤ closed A) → ⊥) → closed A ≤ p * sizes.page_size
 not_closed sizes A p page_some ok unflushed =
-    let swap : sizes.page_size * (closed A / sizes.page_size) ≡ closed A / sizes.page_size * sizes.page_size = omega arith in
+    let is : closed A ≡ closed A / sizes.page_size * sizes.page_size = omega (arith, div-add-mod' (closed A) sizes.page_size, closed-whole sizes A ok) in
     ⊎_elim
     (λ (lt : p < closed A / sizes.page_size).
     let more : (p + 1) * sizes.page_size ≤ closed A / sizes.page_size * sizes.page_size = mul-le-mul_right sizes.page_size (omega (arith, lt)) in
-    absurd (unflushed (omega (arith, more, div-mul-le_self (closed A) sizes.page_size))))
-    (λ (ge : closed A / sizes.page_size ≤ p).
-    let more : closed A / sizes.page_size * sizes.page_size ≤ p * sizes.page_size = mul-le-mul_right sizes.page_size ge in
-    omega (arith, more, swap, div-add-mod (closed A) sizes.page_size, closed-whole sizes A ok))
+    absurd (unflushed (omega (arith, more, is))))
+    (λ (ge : closed A / sizes.page_size ≤ p). let more : closed A / sizes.page_size * sizes.page_size ≤ p * sizes.page_size = mul-le-mul_right sizes.page_size ge in omega (arith, more, is))
     (cases_lt p (closed A / sizes.page_size))
 
 -- Where a word of an image was loaded: its address is open there

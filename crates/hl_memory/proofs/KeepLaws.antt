@@ -63,23 +63,16 @@ module _ (sizes : Sizes) where
   open_load p a low h fault below =
       let lawful = load_lawful p a fault in
       let rise = touches_rise p.slot p.held p.touches h.touches in
-      let same : (seen p).tail ≡ p.held.tail = rise.2 in
-      let up : p.held.head ≤ (seen p).head = rise.1 in
-      (h.newest, h.older, h.newest_is, omega (arith, lawful.1, same, h.sees), omega (arith, lawful.0, up, below))
+      (h.newest, h.older, h.newest_is, omega (arith, lawful.1, rise.2, h.sees), omega (arith, lawful.0, rise.1, below))
 
   open_change : (p : PassRecord) (a low : ℕ) → PassEnters sizes p → store_fault p a ≡ None → low ≤ p.held.read_only → IsOpen sizes a p.rider.calls low
   open_change p a low h fault below =
       let lawful = store_lawful p a 0 fault in
       let rise = touches_rise p.slot p.held p.touches h.touches in
-      let same : (seen p).tail ≡ p.held.tail = rise.2 in
-      let up : p.held.read_only ≤ (seen p).read_only = rise.0 in
-      (h.newest, h.older, h.newest_is, omega (arith, lawful.2, same, h.sees), omega (arith, lawful.1, up, below))
+      (h.newest, h.older, h.newest_is, omega (arith, lawful.2, rise.2, h.sees), omega (arith, lawful.1, rise.0, below))
 
   write_at : (a v : ℕ) (p : PassRecord) → store_fault p a ≡ None → PassEnters sizes p → IsWriteAt sizes a v p.rider.calls (Write p.slot a v)
-  write_at a v p fault h =
-      let lawful = store_lawful p a v fault in
-      let same : (seen p).tail ≡ p.held.tail = (touches_rise p.slot p.held p.touches h.touches).2 in
-      (p.slot, refl, h.newest, h.older, h.newest_is, omega (arith, lawful.2, same, h.sees))
+  write_at a v p fault h = let o = open_change p a 0 h fault (omega arith) in (p.slot, refl, o.0, o.1, o.2, o.3)
 
   stores : (a v : ℕ) (p : PassRecord) (acts : List Touch) → store_fault p a ≡ None → PassActs sizes p acts → PassActs sizes (with_store sizes a v p) (Stored a v ∷ acts)
   unfolding with_store
