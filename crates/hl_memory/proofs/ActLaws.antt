@@ -1,5 +1,5 @@
 -- Acts and their touches: what one is tells of the other.
-use Rattle.std.proofs.Common.{◌≡◌, ℕ, suc, ◌==◌, ◌⊎◌, Bool, true, false, List, [], ◌∷◌, ◌++◌, length, map, Some, None, slice_get, refl, ap, sym, ◌∙◌, inl, inr, ⊎_elim, length-append}
+use Rattle.std.proofs.Common.{subst, ◌≤◌, ◌≡◌, ℕ, suc, ◌==◌, ◌⊎◌, Bool, true, false, List, [], ◌∷◌, ◌++◌, length, map, Some, None, slice_get, refl, ap, sym, ◌∙◌, inl, inr, ⊎_elim, length-append}
 use Rattle.std.specs.Prelude.{if◌then◌else◌}
 use Rattle.std.specs.List.{AllByRecursion as Every}
 use Rattle.std.proofs.lemmas.Bool.{eq-eqb, eqb-true, ne_eqb}
@@ -10,12 +10,15 @@ use Rattle.hl_history.specs.Lists.{left_by, IsOf, IsOneList}
 use Rattle.hl_words.specs.declared.view.Extent.{Extent}
 use Rattle.hl_words.specs.declared.view.Touch.{Touch}
 use Rattle.hl_words.specs.declared.view.Touch.TheVariants.{Stored, Changed, Called, Looked}
-use Rattle.hl_words.specs.Rule.{last_store, left_by as leaves_by, TouchBy, by_rider, held, touches_of}
+use Rattle.hl_words.specs.Rule.{last_store, left_by as leaves_by, TouchBy, by_rider, held, touches_of, IsSerial}
 use Rattle.hl_words.specs.States.{RiderState, AreTied}
+use Rattle.hl_words.proofs.CallOrder.{IsUpTo, met_all}
 use Rattle.hl_words.proofs.Cut.{every_at}
 use Rattle.hl_words.proofs.Lawful.{Puts, Passes, puts_or_passes, last_either}
 use Rattle.hl_words.proofs.Orders.{own_more}
+use Rattle.hl_words.proofs.PastProofs.{serial_end}
 use Rattle.hl_keeper.specs.Passes.{cell_at}
+use Rattle.hl_images.proofs.PlaceLaws.{every_in}
 use Rattle.hl_images.proofs.WordLaws.{calls_at}
 use Rattle.hl_memory.specs.Acts.{in_cell, in_cells, IsPut}
 
@@ -67,6 +70,12 @@ of_one_list whole riders one i r at = every_at (IsOf whole) (map (λ (q : RiderS
 
 pub tied_of : (riders : List RiderState) → Every (λ (q : RiderState). AreTied q.view.touches q.calls) riders → (i : ℕ) (r : RiderState) → slice_get riders i ≡ Some r → AreTied r.view.touches r.calls
 tied_of riders ties i r at = every_at (λ (q : RiderState). AreTied q.view.touches q.calls) riders ties i r at
+
+-- of two calls in the order the upper one met what the lower one left
+pub lower : (order front : List TouchBy) (k : ℕ) (met left : Extent) (before mid : List TouchBy) (k2 : ℕ) (met2 left2 : Extent) (rest : List TouchBy) → IsSerial order → order ≡ front ++ by_rider k (Called met left) ∷ before → before ≡ mid ++ by_rider k2 (Called met2 left2) ∷ rest → left2.steps ≤ met.steps
+lower order front k met left before mid k2 met2 left2 rest serial is inside =
+    let most = met_all k met left before (serial_end front (by_rider k (Called met left) ∷ before) (subst IsSerial is serial)) in
+    (every_in (λ (t : TouchBy). IsUpTo met t.touch) mid (by_rider k2 (Called met2 left2)) rest (subst (Every (λ (t : TouchBy). IsUpTo met t.touch)) inside most)).0
 
 -- an act that stores at an address leaves its value there, and another leaves what was there
 put_leaves : (a v w : ℕ) (t : Touch) → IsPut t a v → leaves_by a t w ≡ v

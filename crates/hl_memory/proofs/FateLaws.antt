@@ -13,19 +13,17 @@ use Rattle.hl_history.specs.Lists.{Begins, entry, left_by, IsOneList}
 use Rattle.hl_words.specs.declared.view.Extent.{Extent}
 use Rattle.hl_words.specs.declared.view.Touch.{Touch}
 use Rattle.hl_words.specs.declared.view.Touch.TheVariants.{Stored, Changed, Called}
-use Rattle.hl_words.specs.Rule.{TouchBy, by_rider, IsSerial, touches_of, HasOneOrder}
+use Rattle.hl_words.specs.Rule.{TouchBy, by_rider, touches_of, HasOneOrder}
 use Rattle.hl_words.specs.States.{RiderState, AreTied}
-use Rattle.hl_words.proofs.CallOrder.{IsUpTo, met_all}
-use Rattle.hl_words.proofs.Cut.{every_back}
 use Rattle.hl_words.proofs.Orders.{own_more}
-use Rattle.hl_words.proofs.PastProofs.{IsCut, compared, cut_at, joined, touches_both, serial_end}
+use Rattle.hl_words.proofs.PastProofs.{IsCut, compared, cut_at, joined, touches_both}
 use Rattle.hl_keeper.specs.Passes.{cell_at}
 use Rattle.hl_keeper.specs.Pages.{first_cell}
 use Rattle.hl_images.proofs.PlaceLaws.{both, shorter}
 use Rattle.hl_images.proofs.StoreLaws.{CallAt, ZeroAt, find_call, find_zero}
 use Rattle.hl_images.proofs.WriterLaws.{next_call}
 use Rattle.hl_memory.specs.Acts.{in_cell, in_cells, IsPut, IsZeroAt, IsHistory}
-use Rattle.hl_memory.proofs.ActLaws.{cells_both, acts_both, acts_long, own_cells, of_one_list, tied_of}
+use Rattle.hl_memory.proofs.ActLaws.{cells_both, acts_both, acts_long, own_cells, of_one_list, tied_of, lower}
 use Rattle.hl_memory.proofs.PageLaws.{Freeing, freeing_call}
 use Rattle.hl_memory.proofs.TakeLaws.{one_take}
 
@@ -111,12 +109,6 @@ module _ (sizes : Sizes) (whole : List Step) (page_some : 0 < sizes.page_size) (
 
       at_take : h.0 ≡ (in_cells sizes front ++ act ∷ ct.front) ++ by_rider i (Called n.1 n.2) ∷ ct.before
       at_take = joined (in_cells sizes front) ct.front act (by_rider i (Called n.1 n.2)) bx ct.before h.0 at_act ct.whole
-
-      -- of two calls in the order the upper one met what the lower one left
-      lower : (front : List TouchBy) (k : ℕ) (met left : Extent) (before mid : List TouchBy) (k2 : ℕ) (met2 left2 : Extent) (rest : List TouchBy) → h.0 ≡ front ++ by_rider k (Called met left) ∷ before → before ≡ mid ++ by_rider k2 (Called met2 left2) ∷ rest → left2.steps ≤ met.steps
-      lower front k met left before mid k2 met2 left2 rest is inside =
-          let most = met_all k met left before (serial_end front (by_rider k (Called met left) ∷ before) (subst IsSerial is h.1.serial)) in
-          (every_back (λ (t : TouchBy). IsUpTo met t.touch) mid (by_rider k2 (Called met2 left2) ∷ rest) (subst (Every (λ (t : TouchBy). IsUpTo met t.touch)) inside most)).0.0
 
       no_call : (met left : Extent) → in_cell sizes own ≡ Called met left → ⊥
       no_call met left e =
@@ -208,9 +200,9 @@ module _ (sizes : Sizes) (whole : List Step) (page_some : 0 < sizes.page_size) (
           by_place : ((mid : List TouchBy) × (ct.before ≡ mid ++ by_rider f.s (Called m.1 m.2) ∷ cz.before))
               ⊎ (((by_rider i (Called n.1 n.2) ≡ by_rider f.s (Called m.1 m.2)) × (ct.before ≡ cz.before)) ⊎ ((mid : List TouchBy) × (cz.before ≡ mid ++ by_rider i (Called n.1 n.2) ∷ ct.before))) → (is_freed sizes q whole ≡ false) ⊎ FreedAbove q base
           by_place (inl o) =
-              absurd (omega (arith, lower (in_cells sizes front ++ act ∷ ct.front) i n.1 n.2 ct.before o.0 f.s m.1 m.2 cz.before at_take o.1, n.6, m.5, length-append other (CleanTake ∷ []), once))
+              absurd (omega (arith, lower h.0 (in_cells sizes front ++ act ∷ ct.front) i n.1 n.2 ct.before o.0 f.s m.1 m.2 cz.before h.1.serial at_take o.1, n.6, m.5, length-append other (CleanTake ∷ []), once))
           by_place (inr (inr o)) =
-              absurd (omega (arith, lower (cs.front ++ free ∷ cz.front) f.s m.1 m.2 cz.before o.0 i n.1 n.2 ct.before at_other o.1, m.6, n.5, length-append list (CleanTake ∷ []), once))
+              absurd (omega (arith, lower h.0 (cs.front ++ free ∷ cz.front) f.s m.1 m.2 cz.before o.0 i n.1 n.2 ct.before h.1.serial at_other o.1, m.6, n.5, length-append list (CleanTake ∷ []), once))
           by_place (inr (inl o)) =
               let same : i ≡ f.s = ap (λ (t : TouchBy). t.rider) o.0 in
               let long : length n.3 ≡ length m.3 =

@@ -1,5 +1,5 @@
 -- What stands before an act of a rider between two of its calls, and what the cell of an open address holds.
-use Rattle.std.proofs.Common.{◌≡◌, ℕ, ◌<◌, ◌≤◌, ◌⊎◌, List, [], ◌∷◌, ◌++◌, length, map, ap, sym, ◌∙◌, ⊎_elim, subst, arith, append_assoc}
+use Rattle.std.proofs.Common.{◌≡◌, ℕ, ◌<◌, ◌≤◌, ◌⊎◌, List, [], ◌∷◌, ◌++◌, length, map, ap, sym, ◌∙◌, ⊎_elim, arith, append_assoc}
 use Rattle.std.specs.List.{AllByRecursion as Every}
 use Rattle.hl_model.specs.declared.step.Step.{Step}
 use Rattle.hl_model.specs.Offsets.{tail}
@@ -11,18 +11,16 @@ use Rattle.hl_words.specs.declared.view.Extent.{Extent}
 use Rattle.hl_words.specs.declared.view.RiderView.{RiderView}
 use Rattle.hl_words.specs.declared.view.Touch.{Touch}
 use Rattle.hl_words.specs.declared.view.Touch.TheVariants.{Called}
-use Rattle.hl_words.specs.Rule.{TouchBy, by_rider, held, RisesTo, IsSerial, touches_of, HasOneOrder}
-use Rattle.hl_words.proofs.CallOrder.{IsUpTo, met_all}
-use Rattle.hl_words.proofs.Cut.{every_back}
+use Rattle.hl_words.specs.Rule.{TouchBy, by_rider, held, touches_of, HasOneOrder}
 use Rattle.hl_words.proofs.Orders.{own_more}
-use Rattle.hl_words.proofs.PastProofs.{compared, cut_at, has_more, joined, serial_end, touches_both}
+use Rattle.hl_words.proofs.PastProofs.{compared, cut_at, has_more, joined, touches_both}
 use Rattle.hl_words.specs.States.{RiderState, AreTied}
 use Rattle.hl_keeper.specs.Endings.{EndingState}
 use Rattle.hl_keeper.specs.Passes.{cell_at}
 use Rattle.hl_domain.specs.Domains.{IsEnding}
 use Rattle.hl_memory.specs.Acts.{in_cells, IsZeroAt, IsHistory}
 use Rattle.hl_memory.specs.Memory.{HasGrown, HasNoneLeft}
-use Rattle.hl_memory.proofs.ActLaws.{cells_both}
+use Rattle.hl_memory.proofs.ActLaws.{cells_both, lower}
 use Rattle.hl_memory.proofs.MemoryLaws.{cell_is_memory, none_swept}
 
 -- A place of a history, of which these touches stand before: they have all that made a list in whose log the address is, and
@@ -54,8 +52,6 @@ module _ (cells : ℕ) (words : List ℕ) (riders : List RiderView) (h : HasOneO
       let its = by_rider k (Called first n) in
       let own_call = by_rider j (Called m left) in
       let c = cut_at j h.0 later (Called m left) past (sym (h.1.each j q at) ∙ is) in
-      let serial : IsSerial (c.front ++ own_call ∷ c.before) = subst IsSerial c.whole h.1.serial in
-      let found = serial_end c.front (own_call ∷ c.before) serial in
       let own : touches_of j (own_call ∷ c.before) ≡ Called m left ∷ past = own_more j (Called m left) c.before ∙ ap (λ (l : List Touch). Called m left ∷ l) c.own in
       ⊎_elim
       (λ (here : (mid : List TouchBy) × (before ≡ mid ++ own_call ∷ c.before)).
@@ -65,9 +61,7 @@ module _ (cells : ℕ) (words : List ℕ) (riders : List RiderView) (h : HasOneO
       ⊎_elim
       (λ (same : (its ≡ own_call) × (before ≡ c.before)).
       ([], ap (λ (t : TouchBy). touches_of j (t ∷ before)) same.0 ∙ ap (λ (l : List TouchBy). touches_of j (own_call ∷ l)) same.1 ∙ own))
-      (λ (there : (mid : List TouchBy) × (c.before ≡ mid ++ its ∷ before)).
-      let at_most : RisesTo n m = (every_back (λ (t : TouchBy). IsUpTo m t.touch) there.0 (its ∷ before) (subst (Every (λ (t : TouchBy). IsUpTo m t.touch)) there.1 (met_all j m left c.before found))).0 in
-      absurd (omega (arith, at_most.0, grew, few)))
+      (λ (there : (mid : List TouchBy) × (c.before ≡ mid ++ its ∷ before)). absurd (omega (arith, lower h.0 c.front j m left c.before there.0 k first n before h.1.serial c.whole there.1, grew, few)))
       other)
       (compared front its before c.front own_call c.before (sym whole ∙ c.whole))
 
@@ -77,11 +71,8 @@ module _ (cells : ℕ) (words : List ℕ) (riders : List RiderView) (h : HasOneO
       let its = by_rider k (Called n last) in
       let own_call = by_rider j (Called m left) in
       let c = cut_at j h.0 later (Called m left) past (sym (h.1.each j q at) ∙ is) in
-      let most : Every (λ (t : TouchBy). IsUpTo n t.touch) rest = met_all k n last rest (serial_end front (its ∷ rest) (subst IsSerial whole h.1.serial)) in
       ⊎_elim
-      (λ (here : (mid : List TouchBy) × (rest ≡ mid ++ own_call ∷ c.before)).
-      let at_most : RisesTo left n = (every_back (λ (t : TouchBy). IsUpTo n t.touch) here.0 (own_call ∷ c.before) (subst (Every (λ (t : TouchBy). IsUpTo n t.touch)) here.1 most)).0 in
-      absurd (omega (arith, at_most.0, more)))
+      (λ (here : (mid : List TouchBy) × (rest ≡ mid ++ own_call ∷ c.before)). absurd (omega (arith, lower h.0 front k n last rest here.0 j m left c.before h.1.serial whole here.1, more)))
       (λ (other : ((its ≡ own_call) × (rest ≡ c.before)) ⊎ ((mid : List TouchBy) × (c.before ≡ mid ++ its ∷ rest))).
       ⊎_elim
       (λ (same : (its ≡ own_call) × (rest ≡ c.before)).

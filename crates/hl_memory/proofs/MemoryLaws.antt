@@ -18,13 +18,12 @@ use Rattle.hl_words.specs.declared.view.Extent.{Extent}
 use Rattle.hl_words.specs.declared.view.RiderView.{RiderView}
 use Rattle.hl_words.specs.declared.view.Touch.{Touch}
 use Rattle.hl_words.specs.declared.view.Touch.TheVariants.{Stored, Changed, Called}
-use Rattle.hl_words.specs.Rule.{last_store, TouchBy, by_rider, RisesTo, IsSerial, held, touches_of, HasOneOrder}
+use Rattle.hl_words.specs.Rule.{last_store, TouchBy, by_rider, held, touches_of, HasOneOrder}
 use Rattle.hl_words.specs.States.{RiderState, AreTied}
-use Rattle.hl_words.proofs.CallOrder.{IsUpTo, met_all}
-use Rattle.hl_words.proofs.Cut.{every_back, every_weaker}
+use Rattle.hl_words.proofs.Cut.{every_weaker}
 use Rattle.hl_words.proofs.OneProofs.{none_end}
 use Rattle.hl_words.proofs.Orders.{there, own_more}
-use Rattle.hl_words.proofs.PastProofs.{after_call, compared, cut_at, joined, touches_both, serial_end}
+use Rattle.hl_words.proofs.PastProofs.{after_call, compared, cut_at, joined, touches_both}
 use Rattle.hl_laws.proofs.BoundLaws.{closed-le-head}
 use Rattle.hl_laws.proofs.LawProofs.{accepted_meets_no_fault}
 use Rattle.hl_laws.proofs.PageFacts.{clean_was_out, cleaning_unfreed, freed_closed, head-le-flushed, flushed-le-safe_read_only}
@@ -37,7 +36,7 @@ use Rattle.hl_images.proofs.WordLaws.{view_at}
 use Rattle.hl_images.proofs.WriterLaws.{next_call}
 use Rattle.hl_memory.specs.Acts.{in_cell, in_cells, IsPut, IsWriteAt, IsZeroAt, IsHistory}
 use Rattle.hl_memory.specs.Memory.{HasGrown, HasNoneLeft}
-use Rattle.hl_memory.proofs.ActLaws.{cells_both, acts_both, acts_long, own_cells, HasNoneAt, HasAt, has_at, HasPut, newest_put, of_one_list, tied_of}
+use Rattle.hl_memory.proofs.ActLaws.{cells_both, acts_both, acts_long, own_cells, HasNoneAt, HasAt, has_at, HasPut, newest_put, of_one_list, tied_of, lower}
 use Rattle.hl_memory.proofs.FateLaws.{FreedAbove, fate, put_tied}
 use Rattle.hl_memory.proofs.FindLaws.{act_is, IsEntering, FoundAct, Waits, Calls, find_at}
 use Rattle.hl_memory.proofs.PageLaws.{Freeing, freed_below, low_cleaned, freeing_call, page_later, sweep_later}
@@ -172,13 +171,8 @@ module _ (sizes : Sizes) (whole : List Step) (page_some : 0 < sizes.page_size) (
               let front2 = y.front ++ by_rider y.rider y.act ∷ cut.front in
               let down : base ≡ front2 ++ call ∷ cut.before = joined y.front cut.front (by_rider y.rider y.act) call y.base cut.before base y.whole cut.whole in
               let down_cells : in_cells sizes base ≡ in_cells sizes front2 ++ call ∷ in_cells sizes cut.before = ap (in_cells sizes) down ∙ cells_both sizes front2 (call ∷ cut.before) in
-              let its_call = by_rider k.rider (Called k.met k.left) in
-              let most : Every (λ (t : TouchBy). IsUpTo k.met t.touch) (k.mid ++ in_cells sizes base) =
-              met_all k.rider k.met k.left (k.mid ++ in_cells sizes base) (serial_end k.front (its_call ∷ (k.mid ++ in_cells sizes base)) (subst IsSerial k.all h.1.serial)) in
-              let rest : Every (λ (t : TouchBy). IsUpTo k.met t.touch) (in_cells sizes front2 ++ call ∷ in_cells sizes cut.before) =
-              subst (Every (λ (t : TouchBy). IsUpTo k.met t.touch)) down_cells (every_back (λ (t : TouchBy). IsUpTo k.met t.touch) k.mid (in_cells sizes base) most) in
-              let at_most : RisesTo n.2 k.met = (every_back (λ (t : TouchBy). IsUpTo k.met t.touch) (in_cells sizes front2) (call ∷ in_cells sizes cut.before) rest).0 in
-              let more = both sizes whole page_some frames_some accepted (left_by e) k.list be k.begins (omega (arith, at_most.0, n.5, k.met_is)) in
+              let at_most = lower h.0 k.front k.rider k.met k.left (k.mid ++ in_cells sizes base) (k.mid ++ in_cells sizes front2) y.rider n.1 n.2 (in_cells sizes cut.before) h.1.serial k.all (ap (λ (l : List TouchBy). k.mid ++ l) down_cells ∙ sym (append_assoc k.mid (in_cells sizes front2) (call ∷ in_cells sizes cut.before))) in
+              let more = both sizes whole page_some frames_some accepted (left_by e) k.list be k.begins (omega (arith, at_most, n.5, k.met_is)) in
               both_ways (is_freed sizes q k.list) k.unfreed (subst (λ (l : List Step). is_freed sizes q l ≡ true) (sym more.1) (freed_more sizes q (left_by e) more.0 freed)))
               swept
 
