@@ -79,8 +79,8 @@ abbrev pub placed_end : List ActBy → ℕ
 placed_end [] = 0
 placed_end (t ∷ before) = ends_at t.act (placed_end before)
 
--- if the act placed a record, it lies where this says that those before it end, or at the start of the next page, where the
--- page has no room for it
+-- if the act placed a record, it lies at this end of those before it, or at the start of the next page, where its own has no
+-- room for it
 abbrev pub LiesBehind : ℕ → ℕ → Act → Type 0
 LiesBehind page_size end (Placed a n) = a ≡ place_of page_size end n
 LiesBehind page_size end _ = Unit {0}
@@ -114,8 +114,9 @@ pub record HasOneTrace {F : Type 0} (sizes : Sizes) (riders : List RiderState) (
       → a < tail sizes (ends.steps_cut ++ ending.journal)
       → slice_index ending.words.words (cell_at sizes a) ≡ left_at a all
   pub beyond : (a : ℕ) → tail sizes (ends.steps_cut ++ ending.journal) ≤ a → left_at a all ≡ 0
-  pub placed : ((i : ℕ) (r : RiderState) → is_thread i ≡ false → slice_get riders i ≡ Some r → PlacesNone sizes r)
-      → (tail sizes (ends.steps_cut ++ ending.journal) ≡ placed_end all) × AreInRow sizes.page_size all
+  pub placed : ((i : ℕ) (r : RiderState) → is_thread i ≡ false → slice_get riders i ≡ Some r
+      → PlacesNone sizes r) → (tail sizes (ends.steps_cut ++ ending.journal) ≡ placed_end all)
+      × AreInRow sizes.page_size all
   pub pages : (i page : ℕ) (image : List ℕ) (r : RiderState) → slice_get riders i ≡ Some r
       → HasFlushed sizes page image r → image ≡ page_left sizes page all
 

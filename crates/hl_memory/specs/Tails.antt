@@ -37,5 +37,5 @@ HasLength n _ = Unit {0}
 
 -- Where all records have one length, of which a page has room for a whole number, nothing is skipped
 abbrev pub NoneAreSkipped : Type 0
-NoneAreSkipped = (all : List ActBy) (page_size n : ℕ) → 0 < page_size → page_size % n ≡ 0 → AreInRow page_size all
-    → AllByRecursion (λ t. HasLength n t.act) all → words_skipped all ≡ 0
+NoneAreSkipped = (all : List ActBy) (page_size n : ℕ) → 0 < page_size → page_size % n ≡ 0
+    → AreInRow page_size all → AllByRecursion (λ t. HasLength n t.act) all → words_skipped all ≡ 0
