@@ -5,6 +5,7 @@ use Rattle.hl_crew.specs.declared.messages.Over.{Over}
 use Rattle.hl_crew.specs.Goes.{Each, Followed, Ended, Then, UpTo}
 use Rattle.hl_crew.specs.declared.limits.Cuts.{Cuts}
 use Rattle.hl_crew.specs.Looks.{FindsBy, Looks, LooksNext}
+use Rattle.hl_crew.specs.Overs.{makes_room}
 
 module _ {S : Type 0} (Holds : S → S → Type 0) (same : (old new : S) → new ≡ old → Holds old new)
     (then : (old mid new : S) → Holds old mid → Holds mid new → Holds old new) where
@@ -43,10 +44,10 @@ module _ {S : Type 0} (Holds : S → S → Type 0) (same : (old new : S) → new
 
   -- a look
   pub finds_hold : (Tries : Result Bool Over → S → S → Type 0) (CutsBy : S → S → Type 0) (cuts : Cuts) → ((result : Result Bool Over) (old new : S) → Tries result old new → Holds old new)
-      → ((old new : S) → CutsBy old new → Holds old new) → (result : Result Bool Over) (old new : S) → FindsBy Tries CutsBy cuts result old new → Holds old new
+      → (makes_room cuts ≡ true → (old new : S) → CutsBy old new → Holds old new) → (result : Result Bool Over) (old new : S) → FindsBy Tries CutsBy cuts result old new → Holds old new
   finds_hold Tries CutsBy cuts each cut result old new (inl (once, room)) = each result old new once
   finds_hold Tries CutsBy cuts each cut result old new (inr two) =
-      then old two.full new (each _ old two.full two.refused) (then two.full two.mid new (cut two.full two.mid two.cut) (each two.found two.mid new two.again))
+      then old two.full new (each _ old two.full two.refused) (then two.full two.mid new (cut two.room two.full two.mid two.cut) (each two.found two.mid new two.again))
 
   -- looks
   module _ (Finds : Result Bool Over → S → S → Type 0) (each : (result : Result Bool Over) (old new : S) → Finds result old new → Holds old new) where

@@ -1,7 +1,7 @@
 -- What a crew's calls do leaves it so that its riders store only to sweep, that each store is entered, that they make a
 -- crew's steps alone, and flush only what they imaged.
 use Rattle.std.proofs.Common.{◌≡◌, ℕ, zero, suc, ◌+◌, ◌≤◌, Bool, true, false, List, [], ◌∷◌, Some, None, slice_get, refl, sym, ap, ◌∙◌, subst, inl, inr, arith}
-use Rattle.std.specs.Prelude.{length, Result, Ok, Err, MatchResult, Option, unwrap_or, ◌⊎◌, ◌&&◌, ◌||◌, ◌==◌, All}
+use Rattle.std.specs.Prelude.{length, Result, Ok, Err, MatchResult, Option, IfSome, unwrap_or, ◌⊎◌, ◌&&◌, ◌||◌, ◌==◌, All}
 use Rattle.std.specs.List.{AllByRecursion, list_any}
 use Rattle.std.proofs.lemmas.Option.{get_or_from_slice_get, slice_get_within}
 use Rattle.hl_model.specs.declared.step.Step.{Step}
@@ -30,6 +30,7 @@ use Rattle.hl_images.specs.Later.{IsLater}
 use Rattle.hl_images.specs.Sweeps.{AreSweeps, StoresSweep}
 use Rattle.hl_images.proofs.KeptLaws.{riders_stay_entered}
 use Rattle.hl_images.proofs.LaterLaws.{same as is_same, still, touch as later_touch, loads as later_loads, call as later_call}
+use Rattle.hl_crew.specs.declared.cleaner.CleanerState.{CleanerState}
 use Rattle.hl_crew.specs.declared.ends.Accepted.{Accepted}
 use Rattle.hl_crew.specs.declared.messages.Over.{Over}
 use Rattle.hl_crew.specs.declared.messages.Over.TheVariants.{Lost}
@@ -42,12 +43,12 @@ use Rattle.hl_crew.specs.Cutting.{CutsJournal, EndsTurn, OrCuts}
 use Rattle.hl_crew.specs.Flushes.{HoldState, AnswersPage, Tells}
 use Rattle.hl_crew.specs.Goes.{Followed, UpTo}
 use Rattle.hl_crew.specs.Lags.{is_lag_step, MakesIf, MakesNext, KeepsLag}
-use Rattle.hl_crew.specs.Looks.{LooksNext}
 use Rattle.hl_crew.specs.Overs.{makes_room}
-use Rattle.hl_crew.specs.Riders.{is_crew_step, MakesCrewSteps, has_flushed, WorksOn}
-use Rattle.hl_crew.specs.Runs.{FlushesIf, Acts, Ends, MakesTurn, TurnsNext, Serves, ServeState, serve_of, ServesOnce, ServesNext, ServesUntil}
-use Rattle.hl_crew.specs.Tries.{TriesAgain, Tries, EndsClean}
-use Rattle.hl_crew.specs.Turns.{SendState, swept, swept_by, Brooms, SendsPage, RunsAction, Cleans, Frees, Finds}
+use Rattle.hl_crew.specs.Riders.{is_crew_step, MakesCrewSteps, has_flushed, CutsNothing, CutsNone, WorksOn, KeepsSwept, SweepsOn}
+use Rattle.hl_crew.specs.Runs.{FlushesIf, Acts, Ends, MakesTurn, TurnsNext, TurnsBy, Serves, ServeState, serve_of, ServesOnce, ServesNext, ServesUntil}
+use Rattle.hl_crew.specs.Tries.{TriesAgain, Tries, EndsAction, EndsClean}
+use Rattle.hl_crew.specs.Turns.{SendState, swept as swept_page, swept_by, Takes, Loads, Brooms, SendsPage, Finishes, RunsAction, Cleans, CleansNext, CutsByCleaner, Frees, Finds}
+use Rattle.hl_crew.specs.Works.{LooksOn}
 use Rattle.hl_crew.proofs.LagLaws.{lag_kinds}
 use Rattle.hl_crew.proofs.RepeatLaws.{each_hold, finds_hold, followed_holds, looks_hold, then_holds, up_to_holds}
 
@@ -102,30 +103,50 @@ unfolding loaded_all
 loads_sweep sizes cell [] view calls is = is
 loads_sweep sizes cell (w ∷ words) view calls is = loads_sweep sizes (cell + 1) words _ calls is
 
--- a crew, that serves or not, on a domain of these sizes
-module _ (serves : Bool) (sizes : Sizes) where
+-- the stores of a sweep and the loads of a copy are no calls
+loads_cut_none : (cell : ℕ) (words : List ℕ) (view : RiderView) → AllByRecursion CutsNothing view.touches → AllByRecursion CutsNothing (loaded_all cell words view).touches
+unfolding loaded_all
+loads_cut_none cell [] view none = none
+loads_cut_none cell (w ∷ words) view none = loads_cut_none (cell + 1) words _ (tt, none)
+
+zeros_cut_none : (cell n : ℕ) (view : RiderView) → AllByRecursion CutsNothing view.touches → AllByRecursion CutsNothing (zeroed cell n view).touches
+unfolding zeroed
+zeros_cut_none cell zero view none = none
+zeros_cut_none cell (suc n) view none = (tt, zeros_cut_none cell n view none)
+
+-- a crew that makes room cuts
+pub room_cuts : (cuts : Cuts) → makes_room cuts ≡ true → cuts ≡ Never → ⊥
+room_cuts Never room never = absurd cc
+room_cuts EachTurn room never = absurd cc
+room_cuts (Above steps) room never = absurd cc
+
+-- a crew, that cuts so, serves or not, on a domain of these sizes
+module _ (cuts : Cuts) (serves : Bool) (sizes : Sizes) where
   -- a rider that did nothing
-  pub no_more : (old new : RiderState) → new ≡ old → WorksOn serves sizes old new
-  no_more old new same = subst (λ r. WorksOn serves sizes old r) (sym same) (record { later = is_same old; sweeps = λ s. s; enters = λ h. h; makes = λ m. m; flushes = λ serving p. refl })
+  pub no_more : (old new : RiderState) → new ≡ old → WorksOn cuts serves sizes old new
+  no_more old new same = subst (λ r. WorksOn cuts serves sizes old r) (sym same) (record { later = is_same old; sweeps = λ s. s; enters = λ h. h; makes = λ m. m; keeps = λ never c. c; flushes = λ serving p. refl })
 
   -- one thing after another
-  pub then : (old mid new : RiderState) → WorksOn serves sizes old mid → WorksOn serves sizes mid new → WorksOn serves sizes old new
+  pub then : (old mid new : RiderState) → WorksOn cuts serves sizes old mid → WorksOn cuts serves sizes mid new → WorksOn cuts serves sizes old new
   then old mid new a b = record {
     later = still old mid new a.later b.later;
     sweeps = λ s. b.sweeps (a.sweeps s);
     enters = λ h. b.enters (a.enters h);
     makes = λ m. b.makes (a.makes m);
+    keeps = λ never c. b.keeps never (a.keeps never c);
     flushes = λ serving p. b.flushes serving p ∙ a.flushes serving p;
   }
 
-  -- a call of a crew's steps that flushes no page, if the crew serves
-  pub call_works : {F : Type 0} {domain : DomainState} {call : Call} {H : KeeperState F → KeeperState F → Type 0} → LeavesUnderLock F domain call H → ((list : List Step) → AllByRecursion (λ s. is_crew_step s ≡ true) (call.steps list))
-      → (serves ≡ true → (p : ℕ) (list : List Step) → list_any (flushes p) (call.steps list) ≡ false) → (RiderEnters sizes call.old → RiderEnters sizes call.new) → WorksOn serves sizes call.old call.new
-  call_works {call = call} left made none enters = record {
+  -- a call of a crew's steps that cuts nothing if the crew never cuts, and flushes no page if it serves
+  pub call_works : {F : Type 0} {domain : DomainState} {call : Call} {H : KeeperState F → KeeperState F → Type 0} (left : LeavesUnderLock F domain call H) → (cuts ≡ Never → left.after.cut ≡ left.before.cut)
+      → ((list : List Step) → AllByRecursion (λ s. is_crew_step s ≡ true) (call.steps list))
+      → (serves ≡ true → (p : ℕ) (list : List Step) → list_any (flushes p) (call.steps list) ≡ false) → (RiderEnters sizes call.old → RiderEnters sizes call.new) → WorksOn cuts serves sizes call.old call.new
+  call_works {call = call} left keep made none enters = record {
     later = subst (IsLater call.old) (sym left.entered) (later_call left.before.cut left.after.cut left.list (call.steps left.list) call.old);
     sweeps = λ s. subst (StoresSweep sizes) (sym left.entered) s;
     enters = enters;
     makes = λ m. subst MakesCrewSteps (sym left.entered) (made left.list, m);
+    keeps = λ never c. subst CutsNone (sym left.entered) (keep never, c);
     flushes = λ serving p. ap (λ (r : RiderState). has_flushed p r.calls) left.entered ∙ ap (λ b. b || has_flushed p call.old.calls) (none serving p left.list);
   }
 
@@ -133,67 +154,79 @@ module _ (serves : Bool) (sizes : Sizes) where
   none_enters : {F : Type 0} {domain : DomainState} {H : KeeperState F → KeeperState F → Type 0} (old new : RiderState) → LeavesUnderLock F domain (no_step old new) H → RiderEnters sizes old → RiderEnters sizes new
   none_enters old new left h = subst (RiderEnters sizes) (sym left.entered) ((riders_stay_entered sizes).refused left.before.cut left.after.cut left.list old h)
 
-  pub step_works : {F X : Type 0} {domain : DomainState} {H : KeeperState F → KeeperState F → Type 0} (s : Step) (result : Result X Fault) (old new : RiderState) → LeavesUnderLock F domain (answered result (call_of s old new)) H → IsPlain s
-      → (serves ≡ true → (p : ℕ) → flushes p s ≡ false) → WorksOn serves sizes old new
-  step_works {F = F} {X = X} {domain = domain} {H = H} s result old new left plain none = call_works left (λ list. made_by result s plain.0) (λ serving p list. quiet result s (none serving) p) (by result left)
+  -- a call of one step
+  pub step_works : {F X : Type 0} {domain : DomainState} {H : KeeperState F → KeeperState F → Type 0} (s : Step) (result : Result X Fault) (old new : RiderState) (left : LeavesUnderLock F domain (answered result (call_of s old new)) H)
+      → left.after.cut ≡ left.before.cut → IsPlain s → (serves ≡ true → (p : ℕ) → flushes p s ≡ false) → WorksOn cuts serves sizes old new
+  step_works {F = F} {X = X} {domain = domain} {H = H} s result old new left keep plain none = call_works left (λ never. keep) (λ list. made_by result s plain.0) (λ serving p list. quiet result s (none serving) p) (by result left)
     where
       by : (result : Result X Fault) → LeavesUnderLock F domain (answered result (call_of s old new)) H → RiderEnters sizes old → RiderEnters sizes new
       by (Ok x) left h = subst (RiderEnters sizes) (sym left.entered) ((riders_stay_entered sizes).call left.before.cut left.after.cut left.list s old plain.1 plain.2 h)
       by (Err fault) left h = none_enters old new left h
 
   -- a call that made no step
-  pub none_works : {F : Type 0} {domain : DomainState} {H : KeeperState F → KeeperState F → Type 0} (old new : RiderState) → LeavesUnderLock F domain (no_step old new) H → WorksOn serves sizes old new
-  none_works old new left = call_works left (λ list. tt) (λ serving p list. refl) (none_enters old new left)
+  pub none_works : {F : Type 0} {domain : DomainState} {H : KeeperState F → KeeperState F → Type 0} (old new : RiderState) (left : LeavesUnderLock F domain (no_step old new) H) → (cuts ≡ Never → left.after.cut ≡ left.before.cut) → WorksOn cuts serves sizes old new
+  none_works old new left keep = call_works left keep (λ list. tt) (λ serving p list. refl) (none_enters old new left)
+
+  -- a cut of a crew that cuts
+  pub cut_works : {F : Type 0} {domain : DomainState} {H : KeeperState F → KeeperState F → Type 0} (old new : RiderState) → (cuts ≡ Never → ⊥) → LeavesUnderLock F domain (no_step old new) H → WorksOn cuts serves sizes old new
+  cut_works old new may left = none_works old new left (λ never. absurd (may never))
 
   -- the copy of a page
-  pub loads_work : (page : ℕ) (words : List ℕ) (old new : RiderState) → length words ≡ sizes.page_size → new ≡ with_view (loaded_all (first_cell sizes page) words old.view) old → WorksOn serves sizes old new
-  loads_work page words old new long is = subst (λ r. WorksOn serves sizes old r) (sym is) (record {
+  pub loads_work : (page : ℕ) (words : List ℕ) (old new : RiderState) → length words ≡ sizes.page_size → new ≡ with_view (loaded_all (first_cell sizes page) words old.view) old → WorksOn cuts serves sizes old new
+  loads_work page words old new long is = subst (λ r. WorksOn cuts serves sizes old r) (sym is) (record {
     later = later_loads (first_cell sizes page) words old;
     sweeps = λ s. loads_sweep sizes (first_cell sizes page) words old.view old.calls s;
     enters = λ h. (riders_stay_entered sizes).loads page words old long h;
     makes = λ m. m;
+    keeps = λ never c. loads_cut_none (first_cell sizes page) words old.view c;
     flushes = λ serving p. refl;
   })
 
-  module _ (F : Type 0) (domain : DomainState) (may_cut : Bool) where
+  module _ (F : Type 0) (domain : DomainState) (may_cut : Bool) (may : may_cut ≡ true → cuts ≡ Never → ⊥) where
     -- tries that others follow, all but the last
-    pub again_work : {X : Type 0} (Answered : Result X Fault → RiderState → RiderState → Type 0) → ((old new : RiderState) → Answered (Err JournalFull) old new → WorksOn serves sizes old new)
-        → (n : ℕ) (old new : RiderState) → Followed (TriesAgain F domain may_cut Answered) n old new → WorksOn serves sizes old new
-    again_work Answered each = followed_holds (WorksOn serves sizes) no_more then (TriesAgain F domain may_cut Answered) again
+    pub again_work : {X : Type 0} (Answered : Result X Fault → RiderState → RiderState → Type 0) → ((old new : RiderState) → Answered (Err JournalFull) old new → WorksOn cuts serves sizes old new)
+        → (n : ℕ) (old new : RiderState) → Followed (TriesAgain F domain may_cut Answered) n old new → WorksOn cuts serves sizes old new
+    again_work Answered each = followed_holds (WorksOn cuts serves sizes) no_more then (TriesAgain F domain may_cut Answered) again
       where
-        again : (i : ℕ) (next : Result Bool Fault) (old new : RiderState) → TriesAgain F domain may_cut Answered i next old new → WorksOn serves sizes old new
-        again i next old new (refused, answered, room, cut) = then old refused new (each old refused answered) (none_works refused new cut)
+        again : (i : ℕ) (next : Result Bool Fault) (old new : RiderState) → TriesAgain F domain may_cut Answered i next old new → WorksOn cuts serves sizes old new
+        again i next old new (refused, answered, room, cut) = then old refused new (each old refused answered) (cut_works refused new (may room) cut)
 
-    pub tries_work : {X : Type 0} (Answered : Result X Fault → RiderState → RiderState → Type 0) → ((answer : Result X Fault) (old new : RiderState) → Answered answer old new → WorksOn serves sizes old new)
-        → (result : Result X Fault) (old new : RiderState) → Tries F domain may_cut Answered result old new → WorksOn serves sizes old new
+    pub tries_work : {X : Type 0} (Answered : Result X Fault → RiderState → RiderState → Type 0) → ((answer : Result X Fault) (old new : RiderState) → Answered answer old new → WorksOn cuts serves sizes old new)
+        → (result : Result X Fault) (old new : RiderState) → Tries F domain may_cut Answered result old new → WorksOn cuts serves sizes old new
     tries_work Answered each result old new tries =
         then old tries.last new (again_work Answered (each (Err JournalFull)) tries.before old tries.last tries.again) (each result tries.last new tries.answered)
 
   -- what a crew's calls on one domain do
-  module _ (F : Type 0) (domain : DomainState) (cuts : Cuts) where
-    pub or_cuts_work : (done result : Result Bool Over) (old new : RiderState) → OrCuts F domain cuts done result old new → WorksOn serves sizes old new
+  module _ (F : Type 0) (domain : DomainState) where
+    pub or_cuts_work : (done result : Result Bool Over) (old new : RiderState) → OrCuts F domain cuts done result old new → WorksOn cuts serves sizes old new
     or_cuts_work done result old new (inl (is, same, room)) = no_more old new same
-    or_cuts_work done result old new (inr (full, room, dropped, is, cut)) = none_works old new cut
+    or_cuts_work done result old new (inr (full, room, dropped, is, cut)) = cut_works old new (room_cuts cuts room) cut
 
-    turn_end_works : (cuts : Cuts) (old new : RiderState) → EndsTurn F domain cuts old new → WorksOn serves sizes old new
-    turn_end_works Never old new same = no_more old new same
-    turn_end_works EachTurn old new cut = none_works old new cut
-    turn_end_works (Above steps) old new (true, mid, looked, cut) = then old mid new (none_works old mid looked) (none_works mid new cut)
-    turn_end_works (Above steps) old new (false, mid, looked, same) = then old mid new (none_works old mid looked) (no_more mid new same)
+    turn_end_works : (limit : Cuts) → limit ≡ cuts → (old new : RiderState) → EndsTurn F domain limit old new → WorksOn cuts serves sizes old new
+    turn_end_works Never are old new same = no_more old new same
+    turn_end_works EachTurn are old new cut = cut_works old new (λ never. let no : EachTurn ≡ Never = are ∙ never in absurd cc) cut
+    turn_end_works (Above steps) are old new (true, mid, looked, cut) =
+        then old mid new (none_works old mid looked (λ never. ap (λ (k : KeeperState F). k.cut) looked.holds.0)) (cut_works mid new (λ never. let no : Above steps ≡ Never = are ∙ never in absurd cc) cut)
+    turn_end_works (Above steps) are old new (false, mid, looked, same) = then old mid new (none_works old mid looked (λ never. ap (λ (k : KeeperState F). k.cut) looked.holds.0)) (no_more mid new same)
 
-    action_works : (i : ℕ) (result : Result Bool Over) (old new : RiderState) → RunsAction F domain cuts i result old new → WorksOn serves sizes old new
-    action_works i (Ok true) old new one =
-        then old one.mid new (step_works Take (Ok one.ready) old one.mid one.taken (refl, refl, refl) (λ serving p. refl)) (tries_work F domain (makes_room cuts) _ (λ answer a b done. step_works (Done one.ready.firing.ticket) answer a b done (refl, refl, refl) (λ serving p. refl)) _ one.mid new one.done.2)
-    action_works i (Ok false) old new (fault, none, taken) = step_works {F = F} {X = ReadyRecord F} Take (Err fault) old new taken (refl, refl, refl) (λ serving p. refl)
-    action_works i (Err over) old new (inl (fault, other, is, taken)) = step_works {F = F} {X = ReadyRecord F} Take (Err fault) old new taken (refl, refl, refl) (λ serving p. refl)
-    action_works i (Err over) old new (inr (ready, mid, taken, done)) =
-        then old mid new (step_works Take (Ok ready) old mid taken (refl, refl, refl) (λ serving p. refl)) (tries_work F domain (makes_room cuts) _ (λ answer a b done. step_works (Done ready.firing.ticket) answer a b done (refl, refl, refl) (λ serving p. refl)) _ mid new done.2)
+    take_works : (answer : Result (ReadyRecord F) Fault) (old new : RiderState) → Takes F domain answer old new → WorksOn cuts serves sizes old new
+    take_works answer old new taken = step_works Take answer old new taken taken.holds.1.cut (refl, refl, refl) (λ serving p. refl)
 
-    load_works : (answer : Result PageJob Fault) (old new : RiderState) {H : KeeperState F → KeeperState F → Type 0} → LeavesUnderLock F domain (answered answer (call_of FlushTake old new)) H → WorksOn serves sizes old new
-    load_works answer old new taken = step_works FlushTake answer old new taken (refl, refl, refl) (λ serving p. refl)
+    finish_works : (origin ticket : ℕ) (over : Result Accepted Over) (old new : RiderState) → Finishes F domain cuts origin ticket over old new → WorksOn cuts serves sizes old new
+    finish_works origin ticket over old new (result, told, tries) =
+        tries_work F domain (makes_room cuts) (room_cuts cuts) (EndsAction F domain origin ticket) (λ answer a b done. step_works (Done ticket) answer a b done done.holds.1.0.cut (refl, refl, refl) (λ serving p. refl)) result old new tries
+
+    action_works : (i : ℕ) (result : Result Bool Over) (old new : RiderState) → RunsAction F domain cuts i result old new → WorksOn cuts serves sizes old new
+    action_works i (Ok true) old new one = then old one.mid new (take_works (Ok one.ready) old one.mid one.taken) (finish_works _ _ _ one.mid new one.done)
+    action_works i (Ok false) old new (fault, none, taken) = take_works (Err fault) old new taken
+    action_works i (Err over) old new (inl (fault, other, is, taken)) = take_works (Err fault) old new taken
+    action_works i (Err over) old new (inr (ready, mid, taken, done)) = then old mid new (take_works (Ok ready) old mid taken) (finish_works _ _ _ mid new done)
+
+    load_works : (answer : Result PageJob Fault) (old new : RiderState) → Loads F domain answer old new → WorksOn cuts serves sizes old new
+    load_works answer old new taken = step_works FlushTake answer old new taken taken.holds.1.0.cut (refl, refl, refl) (λ serving p. refl)
 
     -- a page that is sent
-    send_works : (i : ℕ) (result : Result Bool Over) (old new : SendState) → SendsPage F domain i result old new → WorksOn serves sizes old.rider new.rider
+    send_works : (i : ℕ) (result : Result Bool Over) (old new : SendState) → SendsPage F domain i result old new → WorksOn cuts serves sizes old.rider new.rider
     send_works i (Ok true) old new ((load, taken, puts), more) = load_works (Ok load) old.rider new.rider taken
     send_works i (Ok false) old new ((taken, same), sent) = load_works (Err NoneSealed) old.rider new.rider taken
     send_works i (Err over) old new (inl (fault, other, is, (taken, same)), sent) = load_works (Err fault) old.rider new.rider taken
@@ -204,21 +237,21 @@ kind_at : (steps : List Step) → All (λ step. is_lag_step step ≡ true) steps
 kind_at steps kinds i step at = subst (λ (s : Step). is_lag_step s ≡ true) (get_or_from_slice_get steps i step step at) (kinds i step (slice_get_within steps i step at))
 
 -- what a flusher does
-module _ {L : Type 0} (sizes : Sizes) (F : Type 0) (domain : DomainState) where
+module _ {L : Type 0} (limits : Limits) (sizes : Sizes) (F : Type 0) (domain : DomainState) where
   -- what two states of it are known to be
   abbrev FlusherWorks : Bool → FlusherState L → FlusherState L → Type 0
-  FlusherWorks serves old new = WorksOn serves sizes old.rider new.rider
+  FlusherWorks serves old new = WorksOn limits.cuts serves sizes old.rider new.rider
 
   flusher_same : (serves : Bool) (old new : FlusherState L) → new ≡ old → FlusherWorks serves old new
-  flusher_same serves old new same = no_more serves sizes old.rider new.rider (ap (λ (o : FlusherState L). o.rider) same)
+  flusher_same serves old new same = no_more limits.cuts serves sizes old.rider new.rider (ap (λ (o : FlusherState L). o.rider) same)
 
   flusher_then : (serves : Bool) (old mid new : FlusherState L) → FlusherWorks serves old mid → FlusherWorks serves mid new → FlusherWorks serves old new
-  flusher_then serves old mid new = then serves sizes old.rider mid.rider new.rider
+  flusher_then serves old mid new = then limits.cuts serves sizes old.rider mid.rider new.rider
 
   make_works : (serves wanted : Bool) (step : Step) (result : Result (Unit {0}) Fault) (old new : FlusherState L) → is_lag_step step ≡ true → MakesIf F domain wanted step result old new → FlusherWorks serves old new
   make_works serves false step result old new lag (is, same) = flusher_same serves old new same
-  make_works serves true step (Ok done) old new lag (answer, made, is) = step_works serves sizes step (Ok answer) old.rider new.rider made (lag_plain step lag) (λ serving. lag_quiet step lag)
-  make_works serves true step (Err fault) old new lag (made, is) = step_works serves sizes {F = F} {X = ℕ} step (Err fault) old.rider new.rider made (lag_plain step lag) (λ serving. lag_quiet step lag)
+  make_works serves true step (Ok done) old new lag (answer, made, is) = step_works limits.cuts serves sizes step (Ok answer) old.rider new.rider made made.holds.1.cut (lag_plain step lag) (λ serving. lag_quiet step lag)
+  make_works serves true step (Err fault) old new lag (made, is) = step_works limits.cuts serves sizes {F = F} {X = ℕ} step (Err fault) old.rider new.rider made made.holds.1.cut (lag_plain step lag) (λ serving. lag_quiet step lag)
 
   lag_step_works : (serves : Bool) (now : Snapshot) (steps : List Step) → All (λ step. is_lag_step step ≡ true) steps → (i : ℕ) (result : Result Bool Fault) (old new : FlusherState L) → MakesNext F domain serves now steps i result old new → FlusherWorks serves old new
   lag_step_works serves now steps kinds i (Ok true) old new (step, at, made) = make_works serves _ step _ old new (kind_at steps kinds i step at) made
@@ -232,39 +265,39 @@ module _ {L : Type 0} (sizes : Sizes) (F : Type 0) (domain : DomainState) where
 
   -- what it does with pages that it sent, if the writers don't take them themselves
   abbrev HoldWorks : HoldState L → HoldState L → Type 0
-  HoldWorks old new = WorksOn false sizes old.own.rider new.own.rider
+  HoldWorks old new = WorksOn limits.cuts false sizes old.own.rider new.own.rider
 
   hold_same : (old new : HoldState L) → new ≡ old → HoldWorks old new
-  hold_same old new same = no_more false sizes old.own.rider new.own.rider (ap (λ (h : HoldState L). h.own.rider) same)
+  hold_same old new same = no_more limits.cuts false sizes old.own.rider new.own.rider (ap (λ (h : HoldState L). h.own.rider) same)
 
   hold_then : (old mid new : HoldState L) → HoldWorks old mid → HoldWorks mid new → HoldWorks old new
-  hold_then old mid new = then false sizes old.own.rider mid.own.rider new.own.rider
+  hold_then old mid new = then limits.cuts false sizes old.own.rider mid.own.rider new.own.rider
 
   answer_works : (page : ℕ) (ok : Bool) (result : Result (Unit {0}) Over) (old new : HoldState L) → AnswersPage F domain page ok result old new → HoldWorks old new
-  answer_works page ok result old new one = step_works false sizes (FlushDone page ok) one.answer old.own.rider new.own.rider one.answers.met (refl, refl, refl) (λ serving. absurd cc)
+  answer_works page ok result old new one = step_works limits.cuts false sizes (FlushDone page ok) one.answer old.own.rider new.own.rider one.answers.met one.answers.met.holds.1.0.cut (refl, refl, refl) (λ serving. absurd cc)
 
   tell_works : (i : ℕ) (result : Result (Unit {0}) Over) (old new : HoldState L) → ((result ≡ Err Lost) × (new ≡ old)) ⊎ ((page : ℕ) × (ok : Bool) × Tells F domain page ok result old new) → HoldWorks old new
   tell_works i result old new (inl (lost, same)) = hold_same old new same
-  tell_works i result old new (inr (page, ok, inl (none, is, same))) = no_more false sizes old.own.rider new.own.rider (ap (λ (h : HoldState L). h.own.rider) same)
+  tell_works i result old new (inr (page, ok, inl (none, is, same))) = no_more limits.cuts false sizes old.own.rider new.own.rider (ap (λ (h : HoldState L). h.own.rider) same)
   tell_works i result old new (inr (page, ok, inr one)) = answer_works page ok result old new one
 
   flush_works : (serves : Bool) (result : Result (Unit {0}) Over) (old new : FlusherState L) → FlushesIf F domain serves result old new → FlusherWorks serves old new
   flush_works true result old new (is, same) = flusher_same true old new same
   flush_works false result old new flushed =
-      then false sizes old.rider flushed.sender.rider new.rider
-      (up_to_holds (λ (a b : SendState). WorksOn false sizes a.rider b.rider) (λ (a b : SendState) (is : b ≡ a). no_more false sizes a.rider b.rider (ap (λ (s : SendState). s.rider) is)) (λ (a b c : SendState). then false sizes a.rider b.rider c.rider)
-      (SendsPage F domain) (send_works false sizes F domain Never) 4 flushed.sent _ flushed.sender flushed.sends)
-      (then false sizes flushed.sender.rider flushed.mid.own.rider new.rider (each_hold HoldWorks hold_same hold_then _ tell_works _ flushed.told _ flushed.mid flushed.tells)
+      then limits.cuts false sizes old.rider flushed.sender.rider new.rider
+      (up_to_holds (λ (a b : SendState). WorksOn limits.cuts false sizes a.rider b.rider) (λ (a b : SendState) (is : b ≡ a). no_more limits.cuts false sizes a.rider b.rider (ap (λ (s : SendState). s.rider) is)) (λ (a b c : SendState). then limits.cuts false sizes a.rider b.rider c.rider)
+      (SendsPage F domain) (send_works limits.cuts false sizes F domain) 4 flushed.sent _ flushed.sender flushed.sends)
+      (then limits.cuts false sizes flushed.sender.rider flushed.mid.own.rider new.rider (each_hold HoldWorks hold_same hold_then _ tell_works _ flushed.told _ flushed.mid flushed.tells)
       (each_hold HoldWorks hold_same hold_then _ (λ i result (a b : HoldState L) (one : (page : ℕ) × AnswersPage F domain page false result a b). answer_works one.0 false result a b one.1) _ flushed.failed flushed.mid _ flushed.fails))
 
   -- its turns within these limits
-  module _ (limits : Limits) (serves : Bool) where
+  module _ (serves : Bool) where
     acts_work : (result : Result (Unit {0}) Over) (old new : FlusherState L) → Acts F domain limits serves result old new → FlusherWorks serves old new
     acts_work result old new (acts, is) =
-        up_to_holds (WorksOn serves sizes) (no_more serves sizes) (then serves sizes) (RunsAction F domain limits.cuts) (action_works serves sizes F domain limits.cuts) 4 result old.rider new.rider acts
+        up_to_holds (WorksOn limits.cuts serves sizes) (no_more limits.cuts serves sizes) (then limits.cuts serves sizes) (RunsAction F domain limits.cuts) (action_works limits.cuts serves sizes F domain) 4 result old.rider new.rider acts
 
     ends_work : (result : Result (Unit {0}) Over) (old new : FlusherState L) → Ends F domain limits serves result old new → FlusherWorks serves old new
-    ends_work result old new (is, ends, still) = turn_end_works serves sizes F domain limits.cuts limits.cuts old.rider new.rider ends
+    ends_work result old new (is, ends, still) = turn_end_works limits.cuts serves sizes F domain limits.cuts refl old.rider new.rider ends
 
     turn_works : (result : Result (Unit {0}) Over) (old new : FlusherState L) → MakesTurn F domain limits serves result old new → FlusherWorks serves old new
     turn_works =
@@ -273,17 +306,17 @@ module _ {L : Type 0} (sizes : Sizes) (F : Type 0) (domain : DomainState) where
         (then_holds (FlusherWorks serves) (flusher_same serves) (flusher_then serves) (FlushesIf F domain serves) (Ends F domain limits serves) (flush_works serves) ends_work))
 
     pub turned_works : (result : Result Bool Over) (old new : FlusherState L) → Serves F domain limits serves result old new → FlusherWorks serves old new
-    turned_works result old new one = flusher_then serves old one.mid new (turn_works one.made old one.mid one.turn) (or_cuts_work serves sizes F domain limits.cuts _ result one.mid.rider new.rider one.cuts)
+    turned_works result old new one = flusher_then serves old one.mid new (turn_works one.made old one.mid one.turn) (or_cuts_work limits.cuts serves sizes F domain _ result one.mid.rider new.rider one.cuts)
 
     once_works : (vain : ℕ) (result : Result ℕ Over) (old new : FlusherState L) → ServesOnce F domain limits serves vain result old new → FlusherWorks serves old new
     once_works vain (Ok after) old new (moved, written, one, is) = turned_works (Ok moved) old new one
     once_works vain (Err over) old new one = turned_works (Err over) old new one
 
     -- all turns of a flusher: so many, or until its stop
-    pub turns_work : (most : ℕ) (result : Result (Unit {0}) Over) (old new : FlusherState L) → UpTo (TurnsNext F domain limits serves) most result old new → FlusherWorks serves old new
+    turns_work : (most : ℕ) (result : Result (Unit {0}) Over) (old new : FlusherState L) → UpTo (TurnsNext F domain limits serves) most result old new → FlusherWorks serves old new
     turns_work = each_hold (FlusherWorks serves) (flusher_same serves) (flusher_then serves) _ (λ i. turn_works)
 
-    pub served_work : (result : Result Stopped Over) (old new : FlusherState L) → ServesUntil F domain limits serves result old new → FlusherWorks serves old new
+    served_work : (result : Result Stopped Over) (old new : FlusherState L) → ServesUntil F domain limits serves result old new → FlusherWorks serves old new
     served_work result old new served = flusher_then serves old served.last.own new before (by result served.ended)
       where
         before : FlusherWorks serves old served.last.own
@@ -293,6 +326,11 @@ module _ {L : Type 0} (sizes : Sizes) (F : Type 0) (domain : DomainState) where
         by : (result : Result Stopped Over) → MatchResult result (λ _. new ≡ served.last.own) (λ over. Serves F domain limits serves (Err over) served.last.own new) → FlusherWorks serves served.last.own new
         by (Ok stopped) same = flusher_same serves served.last.own new same
         by (Err over) one = turned_works (Err over) served.last.own new one
+
+  -- all that it does
+  pub flusher_works : (serves : Bool) (old new : FlusherState L) → TurnsBy F domain limits serves old new → FlusherWorks serves old new
+  flusher_works false old new (result, turns) = turns_work false limits.turns result old new turns
+  flusher_works true old new (result, served) = served_work true result old new served
 
 -- the zeros of a sweep behind the call that took its page
 zeros_sweep : (sizes : Sizes) (p n : ℕ) (list : List Step) (older : List Entry) (view : RiderView) → next_to_clean sizes list ≡ Some p → n ≤ sizes.page_size → AreSweeps sizes view.touches (entry list (CleanTake ∷ []) ∷ older)
@@ -310,70 +348,126 @@ zeros_later cell (suc n) r =
     let mid : RiderState = with_view (zeroed cell n r.view) r in still r mid _ (zeros_later cell n r) (later_touch (Stored (cell + n) 0) mid)
 
 -- a cleaner's looks
-module _ (serves : Bool) (F : Type 0) (domain : DomainState) (cuts : Cuts) where
-  broom_works : (answer : Result BroomRecord Fault) (old new : RiderState) → Brooms F domain answer old new → WorksOn serves domain.sizes old new
-  broom_works answer old new taken = step_works serves domain.sizes CleanTake answer old new taken (refl, refl, refl) (λ serving p. refl)
+module _ (cuts : Cuts) (serves : Bool) (F : Type 0) (domain : DomainState) where
+  abbrev Works : RiderState → RiderState → Type 0
+  Works = WorksOn cuts serves domain.sizes
 
   -- the cells of a broom's page are swept
   abbrev IsSweptBy : BroomRecord → RiderState → Type 0
   IsSweptBy broom r = IsSwept domain.sizes broom.page r.view.touches r.calls
 
+  broom_works : (answer : Result BroomRecord Fault) (old new : RiderState) → Brooms F domain answer old new → Works old new
+  broom_works answer old new taken = step_works cuts serves domain.sizes CleanTake answer old new taken taken.holds.1.0.cut (refl, refl, refl) (λ serving p. refl)
+
   -- the sweep of a page that was taken
-  sweep_works : (broom : BroomRecord) (old taker : RiderState) → Brooms F domain (Ok broom) old taker → WorksOn serves domain.sizes old (swept_by domain broom taker) × IsSweptBy broom (swept_by domain broom taker)
+  sweep_works : (broom : BroomRecord) (old taker : RiderState) → Brooms F domain (Ok broom) old taker → Works old (swept_by domain broom taker) × IsSweptBy broom (swept_by domain broom taker)
   unfolding step_fault
   sweep_works broom old taker t =
       let next = named NoneClosed (λ p. record { stamp = t.before.stamp; page = p; swept = 0 }) (λ (b : BroomRecord). b.page) (λ p. refl) (room_fault t.before 1) (next_to_clean t.before.core.sizes t.list) broom (t.holds.0 t.list t.met.stands).reply in
       let names : next_to_clean domain.sizes t.list ≡ Some broom.page = subst (λ (z : Sizes). next_to_clean z t.list ≡ Some broom.page) t.met.sizes_are next in
       let took : RiderState = with_entry t.before.cut t.after.cut t.list (CleanTake ∷ []) old in
       let entered : taker ≡ took = t.entered in
-      let works : WorksOn serves domain.sizes old (swept_by domain broom took) = record {
+      let works : Works old (swept_by domain broom took) = record {
         later = still old took (swept_by domain broom took) (later_call t.before.cut t.after.cut t.list (CleanTake ∷ []) old) (zeros_later (first_cell domain.sizes broom.page) domain.sizes.page_size took);
         sweeps = λ s. zeros_sweep domain.sizes broom.page domain.sizes.page_size t.list old.calls took.view names (omega arith) s;
         enters = λ h. (riders_stay_entered domain.sizes).sweeps t.before.cut t.after.cut t.list broom.page old names h;
         makes = λ m. ((refl, tt), m);
+        keeps = λ never c. zeros_cut_none (first_cell domain.sizes broom.page) domain.sizes.page_size took.view (t.holds.1.0.cut, c);
         flushes = λ serving p. refl;
       } in
-      subst (λ (r : RiderState). WorksOn serves domain.sizes old (swept_by domain broom r) × IsSweptBy broom (swept_by domain broom r)) (sym entered) (works, (riders_stay_entered domain.sizes).swept t.before.cut t.after.cut t.list broom.page old names)
+      subst (λ (r : RiderState). Works old (swept_by domain broom r) × IsSweptBy broom (swept_by domain broom r)) (sym entered) (works, (riders_stay_entered domain.sizes).swept t.before.cut t.after.cut t.list broom.page old names)
 
-  -- a call that made no step leaves a page swept
-  none_sweeps : (broom : BroomRecord) {H : KeeperState F → KeeperState F → Type 0} (old new : RiderState) → LeavesUnderLock F domain (no_step old new) H → WorksOn serves domain.sizes old new × (IsSweptBy broom old → IsSweptBy broom new)
-  none_sweeps broom old new left = (none_works serves domain.sizes old new left, λ swept. subst (IsSweptBy broom) (sym left.entered) swept)
+  -- what leaves a page swept
+  abbrev Keeps : BroomRecord → RiderState → RiderState → Type 0
+  Keeps broom a b = Works a b × (IsSweptBy broom a → IsSweptBy broom b)
 
-  -- the tries of a done that frees a swept page
-  free_works : (broom : BroomRecord) (result : Result Accepted Over) (old new : RiderState) → IsSweptBy broom old → Frees F domain cuts broom result old new → WorksOn serves domain.sizes old new
-  free_works broom result old new swept (answer, told, tries) = then serves domain.sizes old tries.last new again.0 (by answer tries.answered)
+  keeps_same : (broom : BroomRecord) (a b : RiderState) → b ≡ a → Keeps broom a b
+  keeps_same broom a b same = (no_more cuts serves domain.sizes a b same, λ h. subst (IsSweptBy broom) (sym same) h)
+
+  keeps_then : (broom : BroomRecord) (a b c : RiderState) → Keeps broom a b → Keeps broom b c → Keeps broom a c
+  keeps_then broom a b c one two = (then cuts serves domain.sizes a b c one.0 two.0, λ h. two.1 (one.1 h))
+
+  -- a call that made no step
+  none_sweeps : (broom : BroomRecord) {H : KeeperState F → KeeperState F → Type 0} (old new : RiderState) (left : LeavesUnderLock F domain (no_step old new) H) → (cuts ≡ Never → left.after.cut ≡ left.before.cut) → Keeps broom old new
+  none_sweeps broom old new left keep = (none_works cuts serves domain.sizes old new left keep, λ swept. subst (IsSweptBy broom) (sym left.entered) swept)
+
+  cut_sweeps : (broom : BroomRecord) (old new : RiderState) → (cuts ≡ Never → ⊥) → CutsJournal F domain old new → Keeps broom old new
+  cut_sweeps broom old new may cut = none_sweeps broom old new cut (λ never. absurd (may never))
+
+  -- the tries of a done that frees a swept page, which is swept still where that was refused
+  free_tries : (broom : BroomRecord) (result : Result ℕ Fault) (old new : RiderState) → IsSweptBy broom old → Tries F domain (makes_room cuts) (EndsClean F domain broom) result old new
+      → Works old new × MatchResult result (λ _. Unit {0}) (λ _. IsSweptBy broom new)
+  free_tries broom result old new swept tries = by result tries.answered
     where
-      Keeps : RiderState → RiderState → Type 0
-      Keeps a b = WorksOn serves domain.sizes a b × (IsSweptBy broom a → IsSweptBy broom b)
+      again : Keeps broom old tries.last
+      again = followed_holds (Keeps broom) (keeps_same broom) (keeps_then broom) (TriesAgain F domain (makes_room cuts) (EndsClean F domain broom))
+          (λ i next a b (refused, answered, room, cut). keeps_then broom a refused b (none_sweeps broom a refused answered (λ never. answered.holds.1.0.cut)) (cut_sweeps broom refused b (room_cuts cuts room) cut)) tries.before old tries.last tries.again
 
-      keeps_same : (a b : RiderState) → b ≡ a → Keeps a b
-      keeps_same a b same = (no_more serves domain.sizes a b same, λ h. subst (IsSweptBy broom) (sym same) h)
+      by : (answer : Result ℕ Fault) → EndsClean F domain broom answer tries.last new → Works old new × MatchResult answer (λ _. Unit {0}) (λ _. IsSweptBy broom new)
+      by (Err fault) done = let kept = keeps_then broom old tries.last new again (none_sweeps broom tries.last new done (λ never. done.holds.1.0.cut)) in (kept.0, kept.1 swept)
+      by (Ok x) done = (
+        then cuts serves domain.sizes old tries.last new again.0 (call_works cuts serves domain.sizes done (λ never. done.holds.1.0.cut) (λ list. (refl, tt)) (λ serving p list. refl)
+            (λ h. subst (RiderEnters domain.sizes) (sym done.entered) ((riders_stay_entered domain.sizes).frees done.before.cut done.after.cut done.list broom.page tries.last (again.1 swept) h))),
+        tt,
+      )
 
-      keeps_then : (a b c : RiderState) → Keeps a b → Keeps b c → Keeps a c
-      keeps_then a b c one two = (then serves domain.sizes a b c one.0 two.0, λ h. two.1 (one.1 h))
+module _ {L : Type 0} (cuts : Cuts) (serves : Bool) (F : Type 0) (domain : DomainState) where
+  -- what a cleaner is known to be, where the page that it keeps is swept
+  abbrev CleanerWorks : CleanerState L → CleanerState L → Type 0
+  CleanerWorks old new = KeepsSwept domain.sizes old → SweepsOn cuts serves domain.sizes old new
 
-      again : Keeps old tries.last
-      again = followed_holds Keeps keeps_same keeps_then (TriesAgain F domain (makes_room cuts) (EndsClean F domain broom)) (λ i next a b (refused, answered, room, cut). keeps_then a refused b (none_sweeps broom a refused answered) (none_sweeps broom refused b cut)) tries.before old tries.last tries.again
+  pub cleaner_same : (old new : CleanerState L) → new ≡ old → CleanerWorks old new
+  cleaner_same old new same kept = record {
+    works = no_more cuts serves domain.sizes old.rider new.rider (ap (λ (c : CleanerState L). c.rider) same);
+    kept = subst (λ (c : CleanerState L). KeepsSwept domain.sizes c) (sym same) kept;
+  }
 
-      by : (answer : Result ℕ Fault) → EndsClean F domain broom answer tries.last new → WorksOn serves domain.sizes tries.last new
-      by (Err fault) done = none_works serves domain.sizes tries.last new done
-      by (Ok x) done = call_works serves domain.sizes done (λ list. (refl, tt)) (λ serving p list. refl)
-          (λ h. subst (RiderEnters domain.sizes) (sym done.entered) ((riders_stay_entered domain.sizes).frees done.before.cut done.after.cut done.list broom.page tries.last (again.1 swept) h))
+  pub cleaner_then : (old mid new : CleanerState L) → CleanerWorks old mid → CleanerWorks mid new → CleanerWorks old new
+  cleaner_then old mid new a b kept =
+      let one = a kept in
+      let two = b one.kept in
+      record { works = then cuts serves domain.sizes old.rider mid.rider new.rider one.works two.works; kept = two.kept }
 
-  clean_works : (result : Result Bool Over) (old new : RiderState) → Cleans F domain cuts result old new → WorksOn serves domain.sizes old new
-  clean_works (Ok true) old new one =
-      let swept_page = sweep_works one.broom old one.taker one.taken in
-      then serves domain.sizes old (swept_by domain one.broom one.taker) new swept_page.0 (free_works (swept domain one.broom) _ _ new swept_page.1 one.done)
-  clean_works (Ok false) old new taken = broom_works _ old new taken
-  clean_works (Err over) old new (inl (fault, other, is, taken)) = broom_works (Err fault) old new taken
-  clean_works (Err over) old new (inr (broom, taker, taken, inl (strange, is, same))) = then serves domain.sizes old taker new (broom_works (Ok broom) old taker taken) (no_more serves domain.sizes taker new same)
-  clean_works (Err over) old new (inr (broom, taker, taken, inr frees)) =
-      let swept_page = sweep_works broom old taker taken in
-      then serves domain.sizes old (swept_by domain broom taker) new swept_page.0 (free_works (swept domain broom) _ _ new swept_page.1 frees)
+  -- it keeps none
+  keeps_none : (new : CleanerState L) → new.swept ≡ None → KeepsSwept domain.sizes new
+  keeps_none new none = subst (λ (kept : Option BroomRecord). IfSome kept (λ broom. IsSweptBy cuts serves F domain broom new.rider)) (sym none) tt
 
-  find_works : (result : Result Bool Over) (old new : RiderState) → Finds F domain cuts result old new → WorksOn serves domain.sizes old new
-  find_works = finds_hold (WorksOn serves domain.sizes) (no_more serves domain.sizes) (then serves domain.sizes) (Cleans F domain cuts) (CutsJournal F domain) cuts clean_works (none_works serves domain.sizes)
+  frees_work : (broom : BroomRecord) (result : Result Bool Over) (old : RiderState) (new : CleanerState L) → IsSweptBy cuts serves F domain broom old → Frees F domain cuts broom result old new → Works cuts serves F domain old new.rider × KeepsSwept domain.sizes new
+  frees_work broom (Ok true) old new swept ((answer, told, tries), none) = ((free_tries cuts serves F domain broom answer old new.rider swept tries).0, keeps_none new none)
+  frees_work broom (Ok false) old new swept none = absurd none
+  frees_work broom (Err over) old new swept ((Ok x, told, tries), kept) = absurd cc
+  frees_work broom (Err over) old new swept ((Err fault, told, tries), kept) =
+      let freed = free_tries cuts serves F domain broom (Err fault) old new.rider swept tries in
+      (freed.0, subst (λ (kept : Option BroomRecord). IfSome kept (λ b. IsSweptBy cuts serves F domain b new.rider)) (sym kept) freed.1)
+
+  clean_works : (kept : Option BroomRecord) (result : Result Bool Over) (old new : CleanerState L) → CleansNext F domain cuts kept result old new → IfSome kept (λ broom. IsSweptBy cuts serves F domain broom old.rider) → SweepsOn cuts serves domain.sizes old new
+  clean_works (Some broom) result old new frees swept = let freed = frees_work broom result old.rider new swept frees in record { works = freed.0; kept = freed.1 }
+  clean_works None result old new (inl (is, taken, none)) swept = record { works = broom_works cuts serves F domain (Err NoneClosed) old.rider new.rider taken; kept = keeps_none new none }
+  clean_works None result old new (inr (inl (fault, other, is, taken, none))) swept = record { works = broom_works cuts serves F domain (Err fault) old.rider new.rider taken; kept = keeps_none new none }
+  clean_works None result old new (inr (inr (broom, taker, taken, inl (strange, is, same, none)))) swept = record {
+    works = then cuts serves domain.sizes old.rider taker new.rider (broom_works cuts serves F domain (Ok broom) old.rider taker taken) (no_more cuts serves domain.sizes taker new.rider same);
+    kept = keeps_none new none;
+  }
+  clean_works None result old new (inr (inr (broom, taker, taken, inr frees))) swept =
+      let page = sweep_works cuts serves F domain broom old.rider taker taken in
+      let freed = frees_work (swept_page domain broom) result (swept_by domain broom taker) new page.1 frees in
+      record { works = then cuts serves domain.sizes old.rider (swept_by domain broom taker) new.rider page.0 freed.0; kept = freed.1 }
+
+  cut_by_works : (old new : CleanerState L) → (cuts ≡ Never → ⊥) → CutsByCleaner F domain cuts old new → CleanerWorks old new
+  cut_by_works old new may (cut, same) kept =
+      let swept : new.swept ≡ old.swept = ap (λ (c : CleanerState L). c.swept) same in
+      record {
+        works = cut_works cuts serves domain.sizes old.rider new.rider may cut;
+        kept = subst (λ (k : Option BroomRecord). IfSome k (λ broom. IsSweptBy cuts serves F domain broom new.rider)) (sym swept) (by old.swept kept);
+      }
+    where
+      by : (k : Option BroomRecord) → IfSome k (λ broom. IsSweptBy cuts serves F domain broom old.rider) → IfSome k (λ broom. IsSweptBy cuts serves F domain broom new.rider)
+      by None none = tt
+      by (Some broom) held = (cut_sweeps cuts serves F domain broom old.rider new.rider may cut).1 held
+
+  find_works : (result : Result Bool Over) (old new : CleanerState L) → Finds F domain cuts result old new → CleanerWorks old new
+  find_works = finds_hold CleanerWorks cleaner_same cleaner_then (Cleans F domain cuts) (CutsByCleaner F domain cuts) cuts (λ result old new. clean_works old.swept result old new) (λ room old new. cut_by_works old new (room_cuts cuts room))
 
   -- all looks of a cleaner
-  pub cleaner_works : (most : ℕ) (result : Result (Unit {0}) Over) (old new : RiderState) → UpTo (LooksNext (Finds F domain cuts)) most result old new → WorksOn serves domain.sizes old new
-  cleaner_works = looks_hold (WorksOn serves domain.sizes) (no_more serves domain.sizes) (then serves domain.sizes) (Finds F domain cuts) find_works
+  pub cleaner_works : (most : ℕ) (old new : CleanerState L) → LooksOn most (Finds F domain cuts) old new → CleanerWorks old new
+  cleaner_works most old new (result, looks) = looks_hold CleanerWorks cleaner_same cleaner_then (Finds F domain cuts) find_works most result old new looks

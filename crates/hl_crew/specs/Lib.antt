@@ -15,5 +15,6 @@ pub mod Riders
 pub mod Tries
 pub mod Turns
 pub mod Waits
+pub mod Works
 pub mod Wakes
 pub mod Writes

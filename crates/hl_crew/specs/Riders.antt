@@ -1,21 +1,25 @@
 -- What the riders of a crew do: which steps their calls make, what they store, and what they flush.
-use Rattle.std.specs.Prelude.{ℕ, ◌≡◌, ◌≢◌, Bool, true, false, Option, is_none, List, [], ◌∷◌}
+use Rattle.std.specs.Prelude.{ℕ, ◌≡◌, ◌≢◌, Bool, true, false, IfSome, List, [], ◌∷◌}
 use Rattle.std.specs.List.{AllByRecursion, list_any}
 use Rattle.hl_model.specs.declared.step.Step.{Step}
 use Rattle.hl_model.specs.declared.step.Step.TheVariants.{Raise, Settle, Shift, Close, Take, Done, FlushTake, FlushDone, CleanTake, CleanDone}
 use Rattle.hl_model.specs.Pages.{flushes}
 use Rattle.hl_model.specs.Sizes.{Sizes}
 use Rattle.hl_history.specs.declared.view.Entry.{Entry}
+use Rattle.hl_words.specs.declared.view.Touch.{Touch}
+use Rattle.hl_words.specs.declared.view.Touch.TheVariants.{Called}
 use Rattle.hl_words.specs.States.{RiderState}
 use Rattle.hl_image.specs.Image.{image}
-use Rattle.hl_domain.specs.Domains.{DomainState}
+use Rattle.hl_images.specs.Entered.{IsSwept}
 use Rattle.hl_images.specs.Flushes.{HasFlushed}
 use Rattle.hl_images.specs.Kept.{RiderEnters}
 use Rattle.hl_images.specs.Later.{IsLater}
 use Rattle.hl_images.specs.Sweeps.{StoresSweep}
+use Rattle.hl_crew.specs.declared.cleaner.CleanerState.{CleanerState}
 use Rattle.hl_crew.specs.declared.crew.Crew.{Crew}
 use Rattle.hl_crew.specs.declared.crew.CrewRiders.{CrewRiders}
-use Rattle.hl_crew.specs.declared.messages.Channels.{Channels}
+use Rattle.hl_crew.specs.declared.limits.Cuts.{Cuts}
+use Rattle.hl_crew.specs.declared.limits.Cuts.TheVariants.{Never}
 use Rattle.hl_crew.specs.declared.state.CrewState.{CrewState}
 use Rattle.hl_crew.specs.declared.writer.WriterState.{WriterState}
 
@@ -38,12 +42,22 @@ is_crew_step _ = false
 abbrev pub MakesCrewSteps : RiderState → Type 0
 MakesCrewSteps r = AllByRecursion (λ e. AllByRecursion (λ s. is_crew_step s ≡ true) e.steps) r.calls
 
+-- a call that left as many steps cut of the list as it met
+abbrev pub CutsNothing : Touch → Type 0
+CutsNothing (Called met left) = left.cut ≡ met.cut
+CutsNothing _ = Unit {0}
+
+-- no call of the rider cut a step of the list
+abbrev pub CutsNone : RiderState → Type 0
+CutsNone r = AllByRecursion CutsNothing r.view.touches
+
 -- Whatever all riders of a crew did before, those that it hands back do: they store only to sweep pages, each store of them
--- is entered, and their calls made steps of a crew alone
-pub record RidersStay (sizes : Sizes) (given riders : List RiderState) : Type 0 where
+-- is entered, their calls made steps of a crew alone, and cut no step, if the crew never cuts
+pub record RidersStay (cuts : Cuts) (sizes : Sizes) (given riders : List RiderState) : Type 0 where
   pub sweeps : AllByRecursion (StoresSweep sizes) given → AllByRecursion (StoresSweep sizes) riders
   pub enters : AllByRecursion (RiderEnters sizes) given → AllByRecursion (RiderEnters sizes) riders
   pub makes : AllByRecursion MakesCrewSteps given → AllByRecursion MakesCrewSteps riders
+  pub keeps : cuts ≡ Never → AllByRecursion CutsNone given → AllByRecursion CutsNone riders
 
 -- some call of these answered page p as flushed
 abbrev pub has_flushed : ℕ → List Entry → Bool
@@ -83,32 +97,45 @@ abbrev pub FailsPage : {W : Type 0} → (W → ℕ → List ℕ → Type 0) → 
 FailsPage has failed before page bytes after =
     failed before page bytes after × KeepsOthers has page before after
 
--- between the two a rider did more, by steps of a crew: it stored only to sweep, each store is entered, and if the crew
--- serves, it flushed no page
-pub record WorksOn (serves : Bool) (sizes : Sizes) (old new : RiderState) : Type 0 where
+-- between the two a rider did more, by steps of a crew: it stored only to sweep, each store is entered, it cut nothing if
+-- the crew never cuts, and if the crew serves, it flushed no page
+pub record WorksOn (cuts : Cuts) (serves : Bool) (sizes : Sizes) (old new : RiderState) : Type 0 where
   pub later : IsLater old new
   pub sweeps : StoresSweep sizes old → StoresSweep sizes new
   pub enters : RiderEnters sizes old → RiderEnters sizes new
   pub makes : MakesCrewSteps old → MakesCrewSteps new
+  pub keeps : cuts ≡ Never → CutsNone old → CutsNone new
   pub flushes : serves ≡ true → (p : ℕ) → has_flushed p new.calls ≡ has_flushed p old.calls
 
 -- the same of a writer: if the crew serves, its rider flushed only pages whose images it wrote
-pub record WritesOn {L W : Type 0} (has : W → ℕ → List ℕ → Type 0) (serves : Bool) (sizes : Sizes)
+pub record WritesOn {L W : Type 0} (has : W → ℕ → List ℕ → Type 0) (cuts : Cuts) (serves : Bool) (sizes : Sizes)
     (old new : WriterState L W) : Type 0 where
   pub later : IsLater old.rider new.rider
   pub sweeps : StoresSweep sizes old.rider → StoresSweep sizes new.rider
   pub enters : RiderEnters sizes old.rider → RiderEnters sizes new.rider
   pub makes : MakesCrewSteps old.rider → MakesCrewSteps new.rider
+  pub keeps : cuts ≡ Never → CutsNone old.rider → CutsNone new.rider
   pub images : serves ≡ true → HasImages has sizes old.rider old.pages
       → HasImages has sizes new.rider new.pages
 
+-- a page that a cleaner keeps was swept by its rider
+abbrev pub KeepsSwept : {L : Type 0} → Sizes → CleanerState L → Type 0
+KeepsSwept sizes own =
+    IfSome own.swept (λ broom. IsSwept sizes broom.page own.rider.view.touches own.rider.calls)
+
+-- the same of a cleaner, if such is a page that it keeps, and then such is one that it keeps
+pub record SweepsOn {L : Type 0} (cuts : Cuts) (serves : Bool) (sizes : Sizes) (old new : CleanerState L)
+    : Type 0 where
+  pub works : WorksOn cuts serves sizes old.rider new.rider
+  pub kept : KeepsSwept sizes new
+
 -- the same of all threads of a crew
-pub record AllWorkOn {L W : Type 0} (has : W → ℕ → List ℕ → Type 0) (serves : Bool) (sizes : Sizes)
-    (old new : CrewState L W) : Type 0 where
-  pub flusher : WorksOn serves sizes old.flusher.rider new.flusher.rider
-  pub first : WritesOn has serves sizes old.first new.first
-  pub second : WritesOn has serves sizes old.second new.second
-  pub cleaner : WorksOn serves sizes old.cleaner new.cleaner
+pub record AllWorkOn {L W : Type 0} (has : W → ℕ → List ℕ → Type 0) (cuts : Cuts) (serves : Bool)
+    (sizes : Sizes) (old new : CrewState L W) : Type 0 where
+  pub flusher : WorksOn cuts serves sizes old.flusher.rider new.flusher.rider
+  pub first : WritesOn has cuts serves sizes old.first new.first
+  pub second : WritesOn has cuts serves sizes old.second new.second
+  pub cleaner : KeepsSwept sizes old.cleaner → SweepsOn cuts serves sizes old.cleaner new.cleaner
 
 -- the riders of a crew, in the order in which `run_crew` takes them
 abbrev pub riders_of : {L : Type 0} → CrewRiders L → List RiderState
@@ -121,27 +148,15 @@ crew_of state = record {
     flusher = state.flusher.rider;
     first_writer = state.first.rider;
     second_writer = state.second.rider;
-    cleaner = state.cleaner;
+    cleaner = state.cleaner.rider;
   };
   first = state.first.pages;
   second = state.second.pages;
 }
 
--- the rider of a crew stores only to sweep, each store of it is entered, and its calls made steps of a crew alone, if all
--- riders did so that it was given; and if the crew serves, this holds of what it flushed, if those had flushed nothing
-pub record IsAsGiven (given : List RiderState) (serves : Bool) (sizes : Sizes) (r : RiderState)
-    (Flushed : Type 0) : Type 0 where
-  pub sweeps : AllByRecursion (StoresSweep sizes) given → StoresSweep sizes r
-  pub enters : AllByRecursion (RiderEnters sizes) given → RiderEnters sizes r
-  pub makes : AllByRecursion MakesCrewSteps given → MakesCrewSteps r
-  pub images : serves ≡ true → AllByRecursion FlushesNone given → Flushed
-
--- so it is with all riders of a crew, by the page writers that it has
-pub record AreAsGiven {L W : Type 0} (has : W → ℕ → List ℕ → Type 0) (serves : Bool) (sizes : Sizes)
-    (given : List RiderState) (crew : Crew L W) : Type 0 where
-  pub stay : RidersStay sizes given (riders_of crew.riders)
+-- so it is with all riders of a crew, by the page writers that it has; and if it serves, this holds of what they flushed, if
+-- those that it was given had flushed nothing
+pub record AreAsGiven {L W : Type 0} (has : W → ℕ → List ℕ → Type 0) (cuts : Cuts) (serves : Bool)
+    (sizes : Sizes) (given : List RiderState) (crew : Crew L W) : Type 0 where
+  pub stay : RidersStay cuts sizes given (riders_of crew.riders)
   pub images : serves ≡ true → AllByRecursion FlushesNone given → AreImaged has sizes crew
-
--- a crew works on a domain of these sizes, and serves or not, as it was given
-abbrev pub IsGiven : Sizes → Bool → DomainState → Option Channels → Type 0
-IsGiven sizes serves domain channels = (sizes ≡ domain.sizes) × (serves ≡ is_none channels)

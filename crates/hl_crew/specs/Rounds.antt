@@ -1,30 +1,30 @@
--- The last rounds of a crew whose threads have ended.
-use Rattle.std.specs.Prelude.{◌≡◌, ℕ, ◌-◌, ◌^◌, Bool, true, false, Result, Ok, Err, List}
+-- What a crew did: the work of its threads, and the last rounds once these have ended.
+use Rattle.std.specs.Prelude.{◌≡◌, ℕ, ◌-◌, ◌^◌, Bool, true, false, Result, Ok, Err, List, [], ◌∷◌}
+use Rattle.hl_words.specs.States.{RiderState}
 use Rattle.hl_domain.specs.Domains.{DomainState}
+use Rattle.hl_crew.specs.declared.calls.CrewEnd.{CrewEnd}
+use Rattle.hl_crew.specs.declared.counts.Counts.{Counts}
 use Rattle.hl_crew.specs.declared.crew.Crew.{Crew}
 use Rattle.hl_crew.specs.declared.flusher.FlusherState.{FlusherState}
 use Rattle.hl_crew.specs.declared.state.CrewState.{CrewState}
 use Rattle.hl_crew.specs.declared.messages.Over.{Over}
 use Rattle.hl_crew.specs.declared.limits.Limits.{Limits}
 use Rattle.hl_crew.specs.Goes.{UpTo}
-use Rattle.hl_crew.specs.Looks.{LooksNext}
 use Rattle.hl_crew.specs.Pages.{FindsPage}
-use Rattle.hl_crew.specs.Riders.{crew_of}
-use Rattle.hl_crew.specs.Runs.{Serves}
+use Rattle.hl_crew.specs.Riders.{crew_of, riders_of}
+use Rattle.hl_crew.specs.Runs.{Serves, TurnsBy}
 use Rattle.hl_crew.specs.Turns.{Finds}
-
--- looks were made until they were over, or one failed
-abbrev pub LooksOn : {S : Type 0} → (Result Bool Over → S → S → Type 0) → S → S → Type 0
-LooksOn Finds old new =
-    (result : Result (Unit {0}) Over) × UpTo (LooksNext Finds) (2 ^ 64 - 1) result old new
+use Rattle.hl_crew.specs.Works.{LooksOn, WritesBy, CleansBy, begun, all_counted}
 
 module _ {L W : Type 0} (F : Type 0) (domain : DomainState) (limits : Limits) (lets : ℕ → Type 0)
     (wrote failed : W → ℕ → List ℕ → W → Type 0) (failures : W → ℕ) where
   -- the writers looked for sealed pages, and then the cleaner for closed ones
   pub record AllLook (old new : CrewState L W) : Type 0 where
-    pub first : LooksOn (FindsPage F domain limits.cuts lets wrote failed failures) old.first new.first
-    pub second : LooksOn (FindsPage F domain limits.cuts lets wrote failed failures) old.second new.second
-    pub cleaner : LooksOn (Finds F domain limits.cuts) old.cleaner new.cleaner
+    pub first : LooksOn (2 ^ 64 - 1) (FindsPage F domain limits.cuts lets wrote failed failures)
+        old.first new.first
+    pub second : LooksOn (2 ^ 64 - 1) (FindsPage F domain limits.cuts lets wrote failed failures)
+        old.second new.second
+    pub cleaner : LooksOn (2 ^ 64 - 1) (Finds F domain limits.cuts) old.cleaner new.cleaner
     pub flusher : new.flusher ≡ old.flusher
 
   -- the flusher made a turn; where that entered a step, the others looked for pages, and another round may
@@ -46,9 +46,27 @@ module _ {L W : Type 0} (F : Type 0) (domain : DomainState) (limits : Limits) (l
   RoundsIf true old new = (result : Result (Unit {0}) Over) × UpTo MakesRound 1000 result old new
   RoundsIf false old new = new ≡ old
 
-  -- what a crew's threads left made the last rounds, if it serves, and this is the crew then
-  pub record EndsByRounds (serves : Bool) (crew : Crew L W) : Type 0 where
+  -- each thread of a crew that was given so did all its work; what they left made the last rounds, if the crew serves;
+  -- and this is the crew then, with what was counted in all
+  pub record HasWorked (serves : Bool) (given crew : Crew L W) (counts : Counts) : Type 0 where
     pub left : CrewState L W
+    pub flusher : TurnsBy F domain limits serves (begun given).flusher left.flusher
+    pub first : WritesBy F domain limits lets wrote failed failures serves (begun given).first left.first
+    pub second : WritesBy F domain limits lets wrote failed failures serves (begun given).second left.second
+    pub cleaner : CleansBy F domain limits (begun given).cleaner left.cleaner
     pub last : CrewState L W
     pub rounds : RoundsIf serves left last
     pub is : crew_of last ≡ crew
+    pub counts_are : all_counted last ≡ counts
+
+  -- likewise a crew that made a number of turns: its riders and page writers were these, and are those of its end, which
+  -- has its counts
+  pub record CountHasWorked (riders : List RiderState) (writers : List W) (end : CrewEnd L W) : Type 0 where
+    pub given : Crew L W
+    pub riders_were : riders_of given.riders ≡ riders
+    pub writers_were : given.first ∷ given.second ∷ [] ≡ writers
+    pub crew : Crew L W
+    pub riders_are : riders_of crew.riders ≡ end.riders
+    pub writers_are : crew.first ∷ crew.second ∷ [] ≡ end.writers
+    pub worked : HasWorked false given crew
+        (record { written = end.written; failed = end.failed; strangers = end.strangers })

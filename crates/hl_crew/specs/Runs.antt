@@ -5,8 +5,6 @@ use Rattle.hl_domain.specs.Domains.{DomainState}
 use Rattle.hl_crew.specs.declared.flusher.FlusherState.{FlusherState}
 use Rattle.hl_crew.specs.declared.messages.Over.{Over}
 use Rattle.hl_crew.specs.declared.limits.Limits.{Limits}
-use Rattle.hl_crew.specs.declared.mode.Mode.{Mode}
-use Rattle.hl_crew.specs.declared.mode.Mode.TheVariants.{Turns, Until}
 use Rattle.hl_crew.specs.declared.stop.Stopped.{Stopped}
 use Rattle.hl_crew.specs.Flushes.{AreFlushed}
 use Rattle.hl_crew.specs.Goes.{Each, Followed, Then, UpTo}
@@ -81,7 +79,8 @@ module _ {L : Type 0} (F : Type 0) (domain : DomainState) where
       pub before : Followed ServesNext turns (serve_of old 0) last
       pub ended : MatchResult result (λ _. new ≡ last.own) (λ over. Serves (Err over) last.own new)
 
-    -- all turns: as many as the limits say, up to one that failed; or those until a stop was given
-    abbrev pub TurnsBy : Mode → FlusherState L → FlusherState L → Type 0
-    TurnsBy Turns old new = (result : Result (Unit {0}) Over) × UpTo TurnsNext limits.turns result old new
-    TurnsBy (Until stop) old new = (result : Result Stopped Over) × ServesUntil result old new
+  -- all turns: as many as the limits say, up to one that failed; or, if the crew serves, those until a stop was given
+  abbrev pub TurnsBy : Limits → Bool → FlusherState L → FlusherState L → Type 0
+  TurnsBy limits false old new =
+      (result : Result (Unit {0}) Over) × UpTo (TurnsNext limits false) limits.turns result old new
+  TurnsBy limits true old new = (result : Result Stopped Over) × ServesUntil limits true result old new

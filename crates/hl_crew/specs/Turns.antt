@@ -1,15 +1,16 @@
 -- What the parts of a turn did.
-use Rattle.std.specs.Prelude.{◌≡◌, ◌⊎◌, ℕ, ◌+◌, Bool, true, false, Option, Result, Ok, Err, List}
+use Rattle.std.specs.Prelude.{◌≡◌, ◌⊎◌, ℕ, ◌+◌, Bool, true, false, Option, Some, None, Result, Ok, Err, List}
 use Rattle.hl_model.specs.declared.fault.Fault.{Fault}
 use Rattle.hl_model.specs.declared.fault.Fault.TheVariants.{NoneClosed, NoneSealed}
 use Rattle.hl_model.specs.declared.step.Step.TheVariants.{Take, FlushTake, CleanTake}
 use Rattle.hl_action.specs.Jobs.{ReadyRecord}
 use Rattle.hl_words.specs.States.{RiderState, with_view}
 use Rattle.hl_keeper.specs.declared.load.PageJob.{PageJob}
-use Rattle.hl_keeper.specs.Calls.{Makes}
+use Rattle.hl_keeper.specs.Calls.{Makes, Stays}
 use Rattle.hl_domain.specs.Domains.{DomainState, call_of, answered, LeavesUnderLock, MakesUnderLock}
 use Rattle.hl_keeper.specs.Pages.{BroomRecord, to_flush, to_clean, first_cell, zeroed}
 use Rattle.hl_keeper.specs.Taking.{taken_from, ready_reply}
+use Rattle.hl_crew.specs.declared.cleaner.CleanerState.{CleanerState}
 use Rattle.hl_crew.specs.declared.ends.Accepted.{Accepted}
 use Rattle.hl_crew.specs.declared.messages.Over.{Over}
 use Rattle.hl_crew.specs.declared.messages.Over.TheVariants.{Lost}
@@ -44,7 +45,7 @@ module _ (F : Type 0) (domain : DomainState) where
   abbrev pub Takes : Result (ReadyRecord F) Fault → RiderState → RiderState → Type 0
   Takes answer old new =
       LeavesUnderLock F domain (answered answer (call_of Take old new))
-      (λ before after. Makes before Take (taken_from before) after (ready_reply answer))
+      (λ before after. Makes before Take (taken_from before) after (ready_reply answer) × Stays before after)
 
   -- a take of a page to be flushed was answered so
   abbrev pub Loads : Result PageJob Fault → RiderState → RiderState → Type 0
@@ -107,38 +108,51 @@ module _ (F : Type 0) (domain : DomainState) (cuts : Cuts) where
       (fault : Fault) × (is_none_ready fault ≡ true) × Takes F domain (Err fault) old new
   RunsAction i (Err over) old new = FailsAction over old new
 
-  -- that of a page that was swept was answered so, by as many tries as that takes
-  abbrev pub Frees : BroomRecord → Result Accepted Over → RiderState → RiderState → Type 0
-  Frees broom result old new = TriesFor F domain (makes_room cuts) (EndsClean F domain broom) result old new
+  -- the done of a page that was swept was answered so, by as many tries as that takes; where it was refused, the cleaner
+  -- keeps the page
+  abbrev pub Frees : {L : Type 0} → BroomRecord → Result Bool Over → RiderState → CleanerState L → Type 0
+  Frees broom (Ok true) old new =
+      TriesFor F domain (makes_room cuts) (EndsClean F domain broom) (Ok accepted) old new.rider
+      × (new.swept ≡ None)
+  Frees broom (Ok false) old new = ⊥
+  Frees broom (Err over) old new =
+      TriesFor F domain (makes_room cuts) (EndsClean F domain broom) (Err over) old new.rider
+      × (new.swept ≡ Some broom)
 
-  -- a page was taken, all its cells swept, and it was accepted as clean
-  pub record CleansOne (old new : RiderState) : Type 0 where
-    pub broom : BroomRecord
-    pub taker : RiderState
-    pub taken : Brooms F domain (Ok broom) old taker
-    pub done : Frees (swept domain broom) (Ok accepted) (swept_by domain broom taker) new
+  -- none is closed
+  abbrev pub FindsNone : {L : Type 0} → Result Bool Over → CleanerState L → CleanerState L → Type 0
+  FindsNone result old new =
+      (result ≡ Ok false) × Brooms F domain (Err NoneClosed) old.rider new.rider × (new.swept ≡ None)
 
-  -- a page that was taken is of another domain; or it was swept, and not accepted as clean
-  abbrev pub FailsBroom : Over → BroomRecord → RiderState → RiderState → Type 0
-  FailsBroom over broom taker new =
-      ((broom.stamp ≡ domain.stamp → ⊥) × (over ≡ Lost) × (new ≡ taker))
-      ⊎ Frees (swept domain broom) (Err over) (swept_by domain broom taker) new
+  -- a take of a page was refused for another reason, and that is what it means for the turns
+  abbrev pub RefusesBroom : {L : Type 0} → Result Bool Over → CleanerState L → CleanerState L → Type 0
+  RefusesBroom result old new =
+      (fault : Fault) × (fault ≡ NoneClosed → ⊥) × (result ≡ Err (over_of fault))
+      × Brooms F domain (Err fault) old.rider new.rider × (new.swept ≡ None)
 
-  -- a take of a page was refused for another reason than that none is closed, and that is what it means for
-  -- the turns; or a page was taken, and that failed
-  abbrev pub FailsClean : Over → RiderState → RiderState → Type 0
-  FailsClean over old new =
-      ((fault : Fault) × (fault ≡ NoneClosed → ⊥) × (over ≡ over_of fault)
-      × Brooms F domain (Err fault) old new)
-      ⊎ ((broom : BroomRecord) × (taker : RiderState) × Brooms F domain (Ok broom) old taker
-      × FailsBroom over broom taker new)
+  -- a page was taken; it is of another domain, or all its cells were swept and its done was answered
+  abbrev pub SweepsOne : {L : Type 0} → Result Bool Over → CleanerState L → CleanerState L → Type 0
+  SweepsOne result old new =
+      (broom : BroomRecord) × (taker : RiderState) × Brooms F domain (Ok broom) old.rider taker
+      × (((broom.stamp ≡ domain.stamp → ⊥) × (result ≡ Err Lost) × (new.rider ≡ taker) × (new.swept ≡ None))
+      ⊎ Frees (swept domain broom) result (swept_by domain broom taker) new)
+
+  -- a page that the cleaner kept was answered, before it takes another; where it kept none, one was taken
+  abbrev pub CleansNext : {L : Type 0} → Option BroomRecord → Result Bool Over
+      → CleanerState L → CleanerState L → Type 0
+  CleansNext (Some broom) result old new = Frees broom result old.rider new
+  CleansNext None result old new =
+      FindsNone result old new ⊎ RefusesBroom result old new ⊎ SweepsOne result old new
 
   -- a page was cleaned; or none is closed; or that failed
-  abbrev pub Cleans : Result Bool Over → RiderState → RiderState → Type 0
-  Cleans (Ok true) old new = CleansOne old new
-  Cleans (Ok false) old new = Brooms F domain (Err NoneClosed) old new
-  Cleans (Err over) old new = FailsClean over old new
+  abbrev pub Cleans : {L : Type 0} → Result Bool Over → CleanerState L → CleanerState L → Type 0
+  Cleans result old new = CleansNext old.swept result old new
+
+  -- a cleaner's rider cut the journal
+  abbrev pub CutsByCleaner : {L : Type 0} → CleanerState L → CleanerState L → Type 0
+  CutsByCleaner old new =
+      CutsJournal F domain old.rider new.rider × (new ≡ record old { rider = new.rider })
 
   -- a look for a page to be cleaned
-  abbrev pub Finds : Result Bool Over → RiderState → RiderState → Type 0
-  Finds = FindsBy Cleans (CutsJournal F domain) cuts
+  abbrev pub Finds : {L : Type 0} → Result Bool Over → CleanerState L → CleanerState L → Type 0
+  Finds = FindsBy Cleans CutsByCleaner cuts

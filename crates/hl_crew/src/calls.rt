@@ -1,8 +1,9 @@
-ghost use Rattle.std.specs.Prelude.{◌≡◌, ◌≢◌, ◌<◌, [], ◌∷◌, Err, false, true, is_none, IsOk, IfOk, IfErr};
+ghost use Rattle.std.specs.Prelude.{◌≡◌, ◌≢◌, [], ◌∷◌, Err, true, is_none, IfOk, IfErr};
 ghost use Rattle.hl_crew.specs.Lags.{IsLag};
-ghost use Rattle.hl_crew.specs.Limited.{duty_limits, run_limits, is_until};
+ghost use Rattle.hl_crew.specs.Limited.{duty_cuts, duty_limits, run_cuts, run_limits, is_until};
 ghost use Rattle.hl_crew.specs.Riders.{AreAsGiven, RidersStay, FailsPage, WritesPage, riders_of};
-ghost use Rattle.hl_crew.specs.Rounds.{EndsByRounds};
+ghost use Rattle.hl_crew.specs.Rounds.{HasWorked, CountHasWorked};
+ghost use Rattle.hl_crew.specs.Works.{AreNamed, begun, counts_of};
 ghost use Rattle.hl_model.specs.declared.fault.Fault.TheVariants.{OutOfMemory, Size};
 
 use crate::crew::{Crew, CrewReport, CrewRiders};
@@ -61,15 +62,16 @@ impl<L: Realm, W> CrewEnd<L, W> {
 /// in a thread of its own. Of the riders the first is the flusher's, the next two are the writers',
 /// the last is the cleaner's. About `mutable` pages at the tail may be written and about `resident`
 /// may be read: `1 <= mutable <= resident <= F`. If `cut` is true, the journal is cut at the end of
-/// each of the flusher's turns. The end has these four as the limits that all threads kept to.
+/// each of the flusher's turns. The end has these four as the limits within which all threads did
+/// their work, and it counts what they counted.
 ///
 /// With as many resident pages as frames, the head never passes the page whose frame the page above
 /// the tail needs, and no frame comes free: [`Duty`] excludes that.
 ///
 /// If the riders had stored into cells only to sweep pages that they had taken to clean, so it is with those that
 /// come back: where the crew took no page to clean, they stored nothing. If each of their stores was entered, so each is;
-/// and if their calls had made takes and dones, raises and shifts, settles and closes alone, so they have: a crew takes no
-/// slot, allocates no page and writes no word.
+/// if their calls had made takes and dones, raises and shifts, settles and closes alone, so they have: a crew takes no
+/// slot, allocates no page and writes no word. If `cut` is false and none of their calls had cut a step, none has.
 ///
 /// `OutOfMemory` if memory or a thread was refused; then riders and page writers are handed back.
 /// Steps that were made until then stay in the journal.
@@ -96,18 +98,16 @@ where
     G: Gate + Sync,
     requires { IsLag domain.now.sizes.frames mutable resident }
     ensures limits { IfOk result (λ end. end.limits ≡ run_limits mutable resident turns cut) }
-    ensures stay { IfOk result (λ end. RidersStay domain.now.sizes riders end.riders)
-        × IfErr result (λ back. RidersStay domain.now.sizes riders back.1) }
+    ensures works { IfOk result (λ end. CountHasWorked F domain.now (run_limits mutable resident turns cut)
+        (G.lets gate.now) (WritesPage W.has W.wrote) (FailsPage W.has W.failed) W.failures
+        riders (first ∷ second ∷ []) end) }
+    ensures stay { IfOk result (λ end. RidersStay (run_cuts cut) domain.now.sizes riders end.riders)
+        × IfErr result (λ back. RidersStay (run_cuts cut) domain.now.sizes riders back.1) }
     ensures err { IfErr result (λ back. back.0 ≡ OutOfMemory) }
 {
-    let [flusher, first_writer, second_writer, cleaner] = riders;
+    let riders = CrewRiders::of(riders);
     let crew = Crew {
-        riders: CrewRiders {
-            flusher,
-            first_writer,
-            second_writer,
-            cleaner,
-        },
+        riders,
         first,
         second,
     };
@@ -176,18 +176,22 @@ impl<L: Realm, W> Crew<L, W> {
         ensures memory { duty.frames ≡ domain.now.sizes.frames
             → IfErr result.1 (λ fault. fault ≡ OutOfMemory) }
         ensures limits { IfOk result.1 (λ report. report.limits ≡ duty_limits duty) }
-        ensures rounds { IsOk result.1 → EndsByRounds F domain.now (duty_limits duty) (G.lets gate.now)
-            (WritesPage W.has W.wrote) (FailsPage W.has W.failed) W.failures true result.0 }
-        ensures kept { AreAsGiven W.has true domain.now.sizes (riders_of self.riders) result.0 }
+        ensures works { IfOk result.1 (λ report. HasWorked F domain.now (duty_limits duty) (G.lets gate.now)
+            (WritesPage W.has W.wrote) (FailsPage W.has W.failed) W.failures true
+            self result.0 (counts_of report)) }
+        ensures kept { AreAsGiven W.has (duty_cuts duty.cut_above) true domain.now.sizes
+            (riders_of self.riders) result.0 }
     {
         if duty.frames() != domain.params().frames() {
             return (self, Err(Fault::Size));
         }
         let limits = Limits::of(duty);
-        self.run::<R, E, F, P, G, Brand>(rt, alloc, domain, gate, limits, Mode::Until(stop))
+        let mode = Mode::Until(stop);
+        self.run::<R, E, F, P, G, Brand>(rt, alloc, domain, gate, limits, mode)
     }
 
-    // Runs a crew within these limits, in this mode. One that serves then makes its last turns.
+    // Runs a crew within these limits, in this mode. One that serves then makes its last turns. The name says what its threads
+    // are given and do.
     fn run<R, E, F, P, G, K>(
         self,
         rt: &R,
@@ -205,15 +209,18 @@ impl<L: Realm, W> Crew<L, W> {
         L: Send + Sync,
         W: PageWriter + Send,
         G: Gate + Sync,
-        K: Given + Send,
+        K: Given<W> + Send,
         requires lag { IsLag domain.now.sizes.frames limits.mutable limits.resident }
-        requires given { (K.riders ≡ riders_of self.riders) × (K.sizes ≡ domain.now.sizes)
-            × (K.serves ≡ is_until mode) }
+        requires named { AreNamed F domain.now limits (G.lets gate.now) (WritesPage W.has W.wrote)
+            (FailsPage W.has W.failed) W.failures (is_until mode)
+            K.flusher K.first K.second K.cleaner (begun self) }
         ensures memory { IfErr result.1 (λ fault. fault ≡ OutOfMemory) }
         ensures limits { IfOk result.1 (λ report. report.limits ≡ limits) }
-        ensures rounds { IsOk result.1 → EndsByRounds F domain.now limits (G.lets gate.now)
-            (WritesPage W.has W.wrote) (FailsPage W.has W.failed) W.failures K.serves result.0 }
-        ensures kept { AreAsGiven W.has K.serves K.sizes K.riders result.0 }
+        ensures works { IfOk result.1 (λ report. HasWorked F domain.now limits (G.lets gate.now)
+            (WritesPage W.has W.wrote) (FailsPage W.has W.failed) W.failures (is_until mode.entry)
+            self result.0 (counts_of report)) }
+        ensures kept { AreAsGiven W.has limits.cuts (is_until mode.entry) domain.now.sizes
+            (riders_of self.riders) result.0 }
     {
         let Ok((channels, buffers)) = open_rows(alloc, domain, &mode) else {
             return (self, Err(Fault::OutOfMemory));
@@ -230,11 +237,12 @@ impl<L: Realm, W> Crew<L, W> {
             has_written: AtomicBool::new(false),
         };
         let seats = Seats::<L, W, K>::of(CrewState::of(self, buffers));
-        let whole = run.run_threads(&seats).ok();
-        let mut state = seats.end();
-        run.end_rounds(&mut state, &whole);
+        // If not all threads were made, those that were are told to end, and the seats tell.
+        let _ = run.run_threads(&seats);
+        let (mut state, done) = seats.end();
+        run.end_rounds(&mut state, done.all());
         let (crew, counts) = state.into_crew();
-        (crew, CrewReport::of(whole, counts, limits))
+        (crew, CrewReport::of(done.all(), counts, limits))
     }
 }
 

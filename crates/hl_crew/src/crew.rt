@@ -1,11 +1,10 @@
 //! A crew's riders, page writers and counts by their names.
-ghost use Rattle.std.specs.Prelude.{◌≡◌, ◌<◌, ◌++◌, ◌↔◌, IfErr, IfNone, IfOk, IfSome, IsOk, IsSome, MatchResult, length};
+ghost use Rattle.std.specs.Prelude.{◌≡◌, ◌<◌, ◌++◌, ◌↔◌, true, IfErr, IfNone, IfOk, IfSome, IsOk, MatchResult, length};
 ghost use Rattle.hl_model.specs.declared.fault.Fault.TheVariants.{OutOfMemory};
 ghost use Rattle.hl_crew.specs.Riders.{riders_of};
 
 use crate::counts::Counts;
 use crate::limits::Limits;
-use crate::whole::Whole;
 use hl_model::Fault;
 use hl_words::{Realm, Rider};
 
@@ -19,6 +18,19 @@ pub struct CrewRiders<L: Realm> {
 }
 
 impl<L: Realm> CrewRiders<L> {
+    // The riders of this row, in their order.
+    pub(crate) fn of(riders: [Rider<L>; 4]) -> CrewRiders<L>
+        ensures { riders_of result ≡ riders }
+    {
+        let [flusher, first_writer, second_writer, cleaner] = riders;
+        CrewRiders {
+            flusher,
+            first_writer,
+            second_writer,
+            cleaner,
+        }
+    }
+
     /// Takes the last four of these riders; `None` if there are fewer, and then all stay.
     pub fn take_from(riders: &mut Vec<Rider<L>>) -> Option<CrewRiders<L>>
         ensures taken { IfSome result (λ crew. riders.old.items ≡ riders.new.items ++ riders_of crew) }
@@ -71,7 +83,7 @@ pub struct CrewReport {
     pub failed: u64,
     /// How many acknowledgements named a page that the flusher didn't hold.
     pub strangers: u64,
-    // Of the threads that were made: only `CrewReport::of` makes a report.
+    // Of all its threads: only `CrewReport::of` makes a report.
     limits: Limits,
 }
 
@@ -83,28 +95,24 @@ impl CrewReport {
         self.limits
     }
 
-    // Returns the report of a crew within these limits, if all of its threads were made.
+    // Returns the report of a crew within these limits, if all of its threads have done their work.
     //
-    // `OutOfMemory` if one wasn't.
-    pub(crate) fn of(
-        whole: Option<Whole>,
-        counts: Counts,
-        limits: Limits,
-    ) -> Result<CrewReport, Fault>
-        ensures whole { IsOk result ↔ IsSome whole }
+    // `OutOfMemory` if one hasn't: it couldn't be made.
+    pub(crate) fn of(are_done: bool, counts: Counts, limits: Limits) -> Result<CrewReport, Fault>
+        ensures done { IsOk result ↔ (are_done ≡ true) }
         ensures counts { IfOk result (λ report. (report.written ≡ counts.written)
             × (report.failed ≡ counts.failed) × (report.strangers ≡ counts.strangers)) }
         ensures limits { IfOk result (λ report. report.limits ≡ limits) }
         ensures memory { IfErr result (λ fault. fault ≡ OutOfMemory) }
     {
-        match whole {
-            Some(_) => Ok(CrewReport {
-                written: counts.written,
-                failed: counts.failed,
-                strangers: counts.strangers,
-                limits,
-            }),
-            None => Err(Fault::OutOfMemory),
+        if !are_done {
+            return Err(Fault::OutOfMemory);
         }
+        Ok(CrewReport {
+            written: counts.written,
+            failed: counts.failed,
+            strangers: counts.strangers,
+            limits,
+        })
     }
 }

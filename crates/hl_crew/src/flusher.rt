@@ -3,16 +3,16 @@ ghost use Rattle.hl_crew.specs.Flushes.{AreFlushed};
 ghost use Rattle.hl_crew.specs.Goes.{UpTo};
 ghost use Rattle.hl_crew.specs.Pouches.{load_count};
 ghost use Rattle.hl_crew.specs.Runs.{FlushesIf, MakesTurn, TurnsBy, TurnsNext, Serves, ServesOnce, ServesUntil};
-ghost use Rattle.hl_crew.specs.Riders.{IsGiven, WorksOn};
+ghost use Rattle.hl_crew.specs.Works.{IsNamed};
 
 use crate::counts::Counts;
 use crate::cutting::cut_if_due;
-use crate::given::Given;
+use crate::given::Left;
 use crate::messages::{Channels, Over};
 use crate::mode::Mode;
 use crate::pouch::Pouch;
 use crate::run::Run;
-use crate::seats::{HasRider, Seat};
+use crate::seats::{Done, Seat};
 use crate::sleepers::AllTold;
 use crate::stop::{Stop, Stopped};
 use hl_action::{Promise, Task};
@@ -39,32 +39,28 @@ pub(crate) struct FlusherState<L: Realm> {
     pub(crate) asked: Asked,
 }
 
-impl<L: Realm> HasRider for FlusherState<L> {
-    ghost use Rattle.hl_crew.specs.Riders.{FlushesNone};
-
-    ghost rider_of = { λ own. own.rider };
-
-    ghost flushed = { λ sizes own. FlushesNone own.rider };
-}
-
 impl<R: Wait, E: Epochs + Drop, F: Task, P: Promise, L: Realm, G> Run<'_, R, E, F, P, L, G> {
     /// The flusher's thread: makes its turns until they are over, and then ends the others.
-    #[tactic(auto, using(crate::proofs::StateLaws::rider_as_given))]
-    pub(crate) fn run_flusher<K: Given>(&self, own: &Mutex<Seat<FlusherState<L>, K>>) -> AllTold
-        requires { IsGiven K.sizes K.serves self.now.domain.now self.now.channels }
+    pub(crate) fn run_flusher<K: Left<FlusherState<L>>>(
+        &self,
+        own: &Mutex<Seat<FlusherState<L>, K>>,
+    ) -> (Done, AllTold)
+        requires { IsNamed K.left
+            (TurnsBy F self.now.domain.now self.now.limits (is_none self.now.channels)) }
     {
-        let mut seat = own.lock(self.rt);
-        self.make_all_turns(&mut seat.own);
-        self.end()
+        let mut guard = own.lock(self.rt);
+        let seat = &mut *guard;
+        if !seat.is_done {
+            self.make_all_turns(&mut seat.own);
+            seat.is_done = true;
+        }
+        (seat.done(), self.end())
     }
 
-    // Makes its turns, as many as the limits say, or until the stop. Its rider stores nothing, and if the crew serves, it
-    // flushes no page.
+    // Makes its turns, as many as the limits say, or until the stop.
     fn make_all_turns(&self, own: &mut FlusherState<L>)
-        ensures turns { TurnsBy F self.now.domain.now self.now.limits
-            (is_none self.now.channels) self.now.mode own.old own.new }
-        ensures works { WorksOn (is_none self.now.channels) self.now.domain.now.sizes
-            own.old.rider own.new.rider }
+        ensures { TurnsBy F self.now.domain.now self.now.limits (is_none self.now.channels)
+            own.old own.new }
     {
         match &self.mode {
             Mode::Turns => {

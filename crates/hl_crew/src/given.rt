@@ -1,26 +1,82 @@
-use std::marker::Brand;
+use crate::cleaner::CleanerState;
+use crate::flusher::FlusherState;
+use crate::writer::WriterState;
+use hl_words::Realm;
+use std::marker::{Brand, PhantomData};
 
-/// Names what a crew was given: its riders, whether it serves, and the sizes of its domain. What lies under a lock is known
-/// by its type alone: by this name the type can say what held before the crew began.
-pub(crate) trait Given {
-    ghost use Rattle.std.specs.Prelude.{List, Bool};
-    ghost use Rattle.hl_model.specs.Sizes.{Sizes};
+/// Names what is known of what each thread of a crew has of its own, with whether it has done its work. What lies under a
+/// lock is known by its type alone: by this name the type can say what the thread was given, and what it does from there on.
+pub(crate) trait Given<W> {
+    ghost use Rattle.std.specs.Prelude.{Bool, Option};
     ghost use Rattle.hl_words.specs.States.{RiderState};
+    ghost use Rattle.hl_keeper.specs.Pages.{BroomRecord};
+    ghost use Rattle.hl_crew.specs.declared.counts.Counts.{Counts};
+    ghost use Rattle.hl_crew.specs.declared.flusher.asked.Asked.{Asked};
 
-    ghost riders: { List RiderState };
+    ghost flusher: { Bool → RiderState → Counts → Asked → Type 0 };
 
-    ghost serves: { Bool };
+    ghost first: { Bool → RiderState → W → Counts → Type 0 };
 
-    ghost sizes: { Sizes };
+    ghost second: { Bool → RiderState → W → Counts → Type 0 };
+
+    ghost cleaner: { Bool → RiderState → Option BroomRecord → Type 0 };
 }
 
-impl Given for Brand {
-    ghost use Rattle.std.specs.Prelude.{[], false};
-    ghost use Rattle.hl_model.specs.Sizes.{Sizes};
+impl<W> Given<W> for Brand {
+    ghost use Rattle.std.specs.Prelude.{⊤};
 
-    ghost riders = { [] };
+    ghost flusher = { λ _ _ _ _. ⊤ };
 
-    ghost serves = { false };
+    ghost first = { λ _ _ _ _. ⊤ };
 
-    ghost sizes = { record { page_size = 4; frames = 2; slots = 1; drain = 1 } };
+    ghost second = { λ _ _ _ _. ⊤ };
+
+    ghost cleaner = { λ _ _ _. ⊤ };
+}
+
+/// Names what is known of what one thread has of its own, with whether it has done its work.
+pub(crate) trait Left<S> {
+    ghost use Rattle.std.specs.Prelude.{Bool};
+
+    ghost left: { Bool → S → Type 0 };
+}
+
+/// The flusher of a crew by its name.
+#[derive(Drop)]
+pub(crate) struct OfFlusher<W, K> {
+    of: PhantomData<(W, K)>,
+}
+
+impl<L: Realm, W, K: Given<W>> Left<FlusherState<L>> for OfFlusher<W, K> {
+    ghost left = { λ is_done own. K.flusher is_done own.rider own.counts own.asked };
+}
+
+/// Its first writer.
+#[derive(Drop)]
+pub(crate) struct OfFirst<W, K> {
+    of: PhantomData<(W, K)>,
+}
+
+impl<L: Realm, W, K: Given<W>> Left<WriterState<L, W>> for OfFirst<W, K> {
+    ghost left = { λ is_done own. K.first is_done own.rider own.pages own.counts };
+}
+
+/// Its second writer.
+#[derive(Drop)]
+pub(crate) struct OfSecond<W, K> {
+    of: PhantomData<(W, K)>,
+}
+
+impl<L: Realm, W, K: Given<W>> Left<WriterState<L, W>> for OfSecond<W, K> {
+    ghost left = { λ is_done own. K.second is_done own.rider own.pages own.counts };
+}
+
+/// Its cleaner.
+#[derive(Drop)]
+pub(crate) struct OfCleaner<W, K> {
+    of: PhantomData<(W, K)>,
+}
+
+impl<L: Realm, W, K: Given<W>> Left<CleanerState<L>> for OfCleaner<W, K> {
+    ghost left = { λ is_done own. K.cleaner is_done own.rider own.swept };
 }

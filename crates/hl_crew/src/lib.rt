@@ -9,7 +9,7 @@
 //! |---|---|
 //! | the flusher | in a turn: makes the lag's steps that it wants, runs safe actions, and cuts the journal where its limits say so |
 //! | two writers | under [`Crew::serve`]: take a sealed page, copy it without the lock, write its image, and answer it |
-//! | the cleaner | takes a closed page, sweeps it without the lock, and frees its frame |
+//! | the cleaner | takes a closed page, sweeps it without the lock, and frees its frame; a page whose done was refused it keeps, and answers before it takes another |
 //!
 //! Under [`run_crew`] the flusher takes the pages, sends them to the writers, which copy and write them, and answers
 //! each.
@@ -24,8 +24,8 @@
 //!
 //! # When a page may be written
 //!
-//! A writer tells a [`Gate`] which page it has begun with, and asks whether it may write it; [`OpenGate`]
-//! always says yes. A writer asks at most 1,000,000 times, and then the page is answered as failed: it may be taken
+//! A writer tells a [`Gate`] which page it has begun with, by a [`Taken`], which only a load makes, and asks whether it may
+//! write it; [`OpenGate`] always says yes. A writer asks at most 1,000,000 times, and then the page is answered as failed: it may be taken
 //! again.
 //!
 //! # How it waits
@@ -44,8 +44,8 @@
 //! by a duty that cuts, or if a channel fails; the others end once they find no page. A crew that serves then makes
 //! at most 1,000 rounds in the thread that called it, of a turn of the flusher and all looks of the others, up to the
 //! first in which the flusher got nowhere or failed. At the end no page that it took is in flight, and no action that
-//! it took is still taken. What was taken and can't be answered is forsaken: such a page stays in flight or in
-//! cleaning, and such an action stays taken. Riders and page writers come back by value, even if a thread couldn't be
+//! it took is still taken. What was taken and can't be answered is forsaken: such a page stays in flight, and such an
+//! action stays taken. A page that was swept is forsaken only once the crew has ended: it stays in cleaning. Riders and page writers come back by value, even if a thread couldn't be
 //! made: each lies under a lock that its thread takes once.
 //!
 //! # What is proved of it
@@ -53,12 +53,14 @@
 //! Of a crew as a whole:
 //!
 //! - Riders and page writers come back: that is in its types. A refusal is `OutOfMemory`, or the `Size` of a duty.
-//! - All its threads kept to the limits that [`CrewReport::limits`] has.
+//! - Where there is a report, each thread did all its work within the limits that [`CrewReport::limits`] has, from what it was
+//!   given on: the flusher its turns, the writers and the cleaner their looks; and what the report counts is what they counted.
+//! - A crew that never cuts made no call that cut a step of the journal.
 //! - A rider that comes back stored only 0s of pages that a call of its own had just taken to clean, if that held of
 //!   all riders before. So a crew that took no page to clean changed no word.
 //! - Under [`Crew::serve`] each page that a rider flushed is with that rider's page writer, as the image of the words
 //!   that it copied between its take and its answer. By `hl_images` they are the page's at the end.
-//! - A crew that served made its last rounds once its threads had ended.
+//! - A crew that served made its last rounds once its threads had done their work.
 //!
 //! Inside, of each function that does a step, what it made under the domain's lock, in what order, and what it counted:
 //!
@@ -70,11 +72,13 @@
 //! | a page that a writer takes itself | be taken by its rider, have its words loaded once the gate let it through, and be answered: as written, if the image of exactly these words was; as failed, if nothing was written, or the write failed and was counted so |
 //! | pages that are sent | be taken up to four a turn, or up to the first take that finds none; be answered and counted once each: as many acknowledgements as were sent, as each says, and each page that none of them named as failed |
 //! | a full journal | be cut only if the limits say so; what ends something is then tried again, up to a thousand times, and a page is looked for once more |
-//! | a page reported as clean | have been swept |
+//! | a page reported as clean | have been swept; where its done is refused, be kept, and answered before another is taken |
+//! | a page that a gate is told of | have been taken |
 //! | who looks for pages | look until a look fails, or one is in vain that was begun once the flusher had ended |
 //!
-//! No clause says that a thread gets on or sleeps, what a channel delivers, or what [`CrewEnd`] counts in all: what lies
-//! under a lock or comes from a channel is known by its type alone.
+//! No clause says that a thread gets on, sleeps or is woken, or what a channel delivers: so under [`run_crew`] a writer may
+//! end before it is told to. What lies under a lock is known by its type alone; so the type of a thread's seat says
+//! what the thread was given, and what it does from there on.
 //!
 //! # Modules
 //!
@@ -82,7 +86,7 @@
 //! |---|---|
 //! | `crew`, `calls` | a crew by names; the calls |
 //! | `run`, `threads`, `rounds`, `whole` | what the threads share; the threads; the end; that all were made |
-//! | `state`, `seats`, `given` | what each thread has of its own; its lock; what comes back, and what of it is known |
+//! | `state`, `seats`, `given` | what each thread has of its own; its lock; what is known of that |
 //! | `duty`, `stop` | what a crew that serves is given; what ends it |
 //! | `limits`, `mode` | what all its threads keep to; for how long they work |
 //! | `flusher`, and in it `lag`, `asked`, `actions`, `pages`, `acknowledgements` | the flusher's turn, a part each |
@@ -126,7 +130,7 @@ pub use crew::{Crew, CrewReport, CrewRiders};
 pub use cutting::{cut_if_due, make_room};
 pub use duty::Duty;
 pub use ends::{ATTEMPTS, Ends, end_by_tries};
-pub use gate::{Gate, OpenGate};
+pub use gate::{Gate, OpenGate, Taken};
 pub use limits::{Cuts, Limits};
 pub use pouch::Pouch;
 pub use stop::Stop;

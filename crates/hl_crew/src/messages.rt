@@ -1,7 +1,7 @@
 ghost use Rattle.std.specs.Prelude.{◌≡◌};
 ghost use Rattle.hl_crew.specs.Overs.{over_of};
 
-use crate::pouch::Held;
+use crate::gate::Taken;
 use crate::writer::Acknowledgement;
 use crossbeam_channel::{Receiver, Sender, bounded};
 use hl_model::Fault;
@@ -14,7 +14,7 @@ const CAPACITY: usize = 4;
 #[derive(Drop)]
 pub(crate) enum Message {
     /// To write a page.
-    Write(Held),
+    Write(Taken),
     /// To end.
     Stop,
 }

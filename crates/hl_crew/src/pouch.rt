@@ -4,8 +4,9 @@ ghost use Rattle.hl_crew.specs.Pouches.{is_of, load_count, Puts, Answers};
 ghost use Rattle.hl_crew.specs.Tries.{EndsFlush};
 ghost use Rattle.hl_crew.specs.Waits.{Waits};
 
+use crate::gate::Taken;
 use hl_action::{Promise, Task};
-use hl_domain::{Domain, Load, PageJob};
+use hl_domain::{Domain, Load};
 use hl_epoch::Epochs;
 use hl_model::Fault;
 use hl_words::{Realm, Rider};
@@ -29,21 +30,6 @@ impl Model for Pouch {
     ghost invariant = { λ a. length a.loads ≡ 4 };
 }
 
-/// The job of a page that was put into a pouch. Only [`Pouch::hold`] makes one, so no other page is sent to a writer.
-#[derive(Drop)]
-pub(crate) struct Held {
-    job: PageJob,
-}
-
-impl Held {
-    /// Returns the job.
-    pub(crate) fn job(self) -> PageJob
-        ensures { result ≡ self.job }
-    {
-        self.job
-    }
-}
-
 impl Pouch {
     /// Returns a pouch that holds none.
     pub fn new() -> Pouch
@@ -63,20 +49,20 @@ impl Pouch {
         let _ = self.hold(load);
     }
 
-    /// The same. Returns the page's job, for a writer.
+    /// The same. Returns the page, for a writer.
     #[tactic(auto, using(crate::proofs::PouchLaws::none_free, crate::proofs::PouchLaws::filled))]
-    pub(crate) fn hold(&mut self, load: Load) -> Held
+    pub(crate) fn hold(&mut self, load: Load) -> Taken
         requires { load_count self.old < 4 }
         ensures held { Puts load self.old self.new }
         ensures more { load_count self.new ≡ load_count self.old + 1 }
-        ensures job { result.job ≡ load }
+        ensures taken { result.job ≡ load }
     {
-        let job = load.job();
+        let taken = Taken::of(&load);
         match self.free_place() {
             Some(at) => self.set(at, load),
             None => unreachable!(),
         }
-        Held { job }
+        taken
     }
 
     /// Answers the flush of a page as ended, well or not; returns the flushed offset. The page is

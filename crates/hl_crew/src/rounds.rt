@@ -1,15 +1,14 @@
 //! How a crew that serves ends: by rounds of all its threads' work in one thread.
-ghost use Rattle.std.specs.Prelude.{◌≡◌, ◌&&◌, is_none, is_some, true};
+ghost use Rattle.std.specs.Prelude.{◌≡◌, ◌&&◌, is_none, true};
 ghost use Rattle.hl_crew.specs.Goes.{UpTo};
 ghost use Rattle.hl_crew.specs.Rounds.{AllLook, MakesRound, RoundsIf};
-ghost use Rattle.hl_crew.specs.Riders.{AllWorkOn, WritesPage, FailsPage};
+ghost use Rattle.hl_crew.specs.Riders.{WritesPage, FailsPage};
 
 use crate::gate::Gate;
 use crate::messages::Over;
 use crate::run::Run;
 use crate::state::CrewState;
 use crate::stop::LAST_TURNS;
-use crate::whole::Whole;
 use hl_action::{Promise, Task};
 use hl_epoch::Epochs;
 use hl_image::PageWriter;
@@ -17,20 +16,13 @@ use hl_words::Realm;
 use std::sync::Wait;
 
 impl<R: Wait, E: Epochs + Drop, F: Task, P: Promise, L: Realm, G: Gate> Run<'_, R, E, F, P, L, G> {
-    /// What a crew does whose threads have ended: if it serves and was whole, it makes its last turns. Its riders
-    /// store only to sweep, and flush only pages whose images were written.
-    pub(crate) fn end_rounds<W: PageWriter>(
-        &self,
-        state: &mut CrewState<L, W>,
-        whole: &Option<Whole>,
-    )
-        ensures rounds { RoundsIf F self.now.domain.now self.now.limits (G.lets self.now.gate.now)
+    /// What a crew does whose threads have ended: if it serves, and all have done their work, it makes its last turns.
+    pub(crate) fn end_rounds<W: PageWriter>(&self, state: &mut CrewState<L, W>, are_done: bool)
+        ensures { RoundsIf F self.now.domain.now self.now.limits (G.lets self.now.gate.now)
             (WritesPage W.has W.wrote) (FailsPage W.has W.failed) W.failures
-            (is_some whole.now && is_none self.now.channels) state.old state.new }
-        ensures works { AllWorkOn W.has (is_none self.now.channels) self.now.domain.now.sizes
-            state.old state.new }
+            (are_done && is_none self.now.channels) state.old state.new }
     {
-        if whole.is_some() && self.serves() {
+        if are_done && self.serves() {
             let _ = self.make_rounds(state, LAST_TURNS);
         }
     }

@@ -1,5 +1,6 @@
 ghost use Rattle.std.specs.Prelude.{◌≡◌, is_none};
 ghost use Rattle.hl_crew.specs.Lags.{IsLag};
+ghost use Rattle.hl_crew.specs.Limited.{is_until};
 
 use crate::ended::EndFlag;
 use crate::limits::Limits;
@@ -29,6 +30,7 @@ pub(crate) struct Run<'x, R, E: Epochs, F: Task, P: Promise, L: Realm, G> {
     /// Whether a writer has written a page that it took itself since the flusher asked.
     pub(crate) has_written: AtomicBool,
     ghost lag: { IsLag domain.now.sizes.frames limits.mutable limits.resident },
+    ghost serves: { is_none channels ≡ is_until mode },
 }
 
 impl<R: Wait, E: Epochs + Drop, F: Task, P: Promise, L: Realm, G> Run<'_, R, E, F, P, L, G> {

@@ -1,84 +1,103 @@
-ghost use Rattle.std.specs.Prelude.{◌≡◌};
-ghost use Rattle.hl_crew.specs.Riders.{AreAsGiven, IsAsGiven, crew_of, riders_of};
+ghost use Rattle.std.specs.Prelude.{◌≡◌, ◌&&◌, false, true};
 
+use crate::cleaner::CleanerState;
 use crate::flusher::FlusherState;
-use crate::given::Given;
+use crate::given::{Given, Left, OfCleaner, OfFirst, OfFlusher, OfSecond};
 use crate::state::CrewState;
 use crate::writer::WriterState;
-use hl_image::PageWriter;
-use hl_words::{Realm, Rider};
+use hl_words::Realm;
 use std::marker::{Model, PhantomData};
 use std::sync::Mutex;
 
-/// What has a rider, which contracts see, and what is known of the pages that it flushed.
-pub(crate) trait HasRider {
-    ghost use Rattle.hl_model.specs.Sizes.{Sizes};
-    ghost use Rattle.hl_words.specs.States.{RiderState};
-
-    ghost rider_of: { Self → RiderState };
-
-    ghost flushed: { Sizes → Self → Type 0 };
-}
-
-impl<L: Realm> HasRider for Rider<L> {
-    ghost use Rattle.hl_crew.specs.Riders.{FlushesNone};
-
-    ghost rider_of = { λ rider. rider };
-
-    ghost flushed = { λ sizes rider. FlushesNone rider };
-}
-
-/// What a thread has of its own, as it lies under its lock: its rider stores only to sweep, if all riders that the crew
-/// was given did; and what it flushed is known, if the crew serves.
-pub(crate) struct Seat<S: HasRider, K: Given> {
+/// What a thread has of its own, as it lies under its lock: what it was given, or what it left once its work was done.
+pub(crate) struct Seat<S, K: Left<S>> {
     pub(crate) own: S,
-    given: PhantomData<K>,
+    /// Whether its thread has done its work.
+    pub(crate) is_done: bool,
+    named: PhantomData<K>,
 }
 
-impl<S: HasRider, K: Given> Model for Seat<S, K> {
-    ghost use Rattle.hl_crew.specs.Riders.{IsAsGiven};
+impl<S, K: Left<S>> Model for Seat<S, K> {
+    ghost use Rattle.hl_crew.specs.Works.{SeatState};
 
-    ghost Value = { S };
+    ghost Value = { SeatState S };
 
-    ghost view = { λ seat. seat.own };
+    ghost view = { λ seat. record { own = seat.own; is_done = seat.is_done } };
 
-    ghost invariant = { λ seat.
-        IsAsGiven K.riders K.serves K.sizes (S.rider_of seat.own) (S.flushed K.sizes seat.own) };
+    ghost invariant = { λ seat. K.left seat.is_done seat.own };
 }
 
-impl<S: HasRider, K: Given> Seat<S, K> {
+/// That a thread has done its work. Only [`Seat::done`] makes one, so no thread can end without.
+#[derive(Drop)]
+pub(crate) struct Done {
+    _made: (),
+}
+
+impl<S, K: Left<S>> Seat<S, K> {
     // The seat of a thread that hasn't begun.
     fn new(own: S) -> Seat<S, K>
-        requires { IsAsGiven K.riders K.serves K.sizes (S.rider_of own) (S.flushed K.sizes own) }
-        ensures { result ≡ own }
+        requires { K.left false own }
     {
         Seat {
             own,
-            given: PhantomData,
+            is_done: false,
+            named: PhantomData,
         }
     }
 
-    // What its thread has left.
-    fn into_own(self) -> S
-        ensures { IsAsGiven K.riders K.serves K.sizes (S.rider_of result) (S.flushed K.sizes result) }
+    /// Its thread has done its work.
+    pub(crate) fn done(&self) -> Done
+        requires { self.now.is_done ≡ true }
     {
-        let Seat { own, given: _ } = self;
-        own
+        Done { _made: () }
+    }
+
+    // What its thread has left, and whether it has done its work.
+    fn into_parts(self) -> (S, bool)
+        ensures { K.left result.1 result.0 }
+    {
+        let Seat {
+            own,
+            is_done,
+            named: _,
+        } = self;
+        (own, is_done)
+    }
+}
+
+/// Which threads of a crew have done their work.
+#[derive(Clone, Copy)]
+pub(crate) struct AreDone {
+    flusher: bool,
+    first: bool,
+    second: bool,
+    cleaner: bool,
+}
+
+impl AreDone {
+    /// Returns whether all have.
+    pub(crate) fn all(self) -> bool
+        ensures { result ≡ (self.flusher && (self.first && (self.second && self.cleaner))) }
+    {
+        self.flusher && self.first && self.second && self.cleaner
     }
 }
 
 /// What each thread has of its own, under a lock that it takes once.
-pub(crate) struct Seats<L: Realm, W: PageWriter, K: Given> {
-    pub(crate) flusher: Mutex<Seat<FlusherState<L>, K>>,
-    pub(crate) first: Mutex<Seat<WriterState<L, W>, K>>,
-    pub(crate) second: Mutex<Seat<WriterState<L, W>, K>>,
-    pub(crate) cleaner: Mutex<Seat<Rider<L>, K>>,
+pub(crate) struct Seats<L: Realm, W, K: Given<W>> {
+    pub(crate) flusher: Mutex<Seat<FlusherState<L>, OfFlusher<W, K>>>,
+    pub(crate) first: Mutex<Seat<WriterState<L, W>, OfFirst<W, K>>>,
+    pub(crate) second: Mutex<Seat<WriterState<L, W>, OfSecond<W, K>>>,
+    pub(crate) cleaner: Mutex<Seat<CleanerState<L>, OfCleaner<W, K>>>,
 }
 
-impl<L: Realm, W: PageWriter, K: Given> Seats<L, W, K> {
+impl<L: Realm, W, K: Given<W>> Seats<L, W, K> {
     /// A seat for each thread.
     pub(crate) fn of(state: CrewState<L, W>) -> Seats<L, W, K>
-        requires { K.riders ≡ riders_of (crew_of state).riders }
+        requires flusher { K.flusher false state.flusher.rider state.flusher.counts state.flusher.asked }
+        requires first { K.first false state.first.rider state.first.pages state.first.counts }
+        requires second { K.second false state.second.rider state.second.pages state.second.counts }
+        requires cleaner { K.cleaner false state.cleaner.rider state.cleaner.swept }
     {
         let CrewState {
             flusher,
@@ -94,9 +113,16 @@ impl<L: Realm, W: PageWriter, K: Given> Seats<L, W, K> {
         }
     }
 
-    /// What each thread has left.
-    pub(crate) fn end(self) -> CrewState<L, W>
-        ensures { AreAsGiven W.has K.serves K.sizes K.riders (crew_of result) }
+    /// What each thread has left, and which have done their work.
+    pub(crate) fn end(self) -> (CrewState<L, W>, AreDone)
+        ensures flusher { let left = result.0 in K.flusher result.1.flusher
+            left.flusher.rider left.flusher.counts left.flusher.asked }
+        ensures first { let left = result.0 in K.first result.1.first
+            left.first.rider left.first.pages left.first.counts }
+        ensures second { let left = result.0 in K.second result.1.second
+            left.second.rider left.second.pages left.second.counts }
+        ensures cleaner { let left = result.0 in K.cleaner result.1.cleaner
+            left.cleaner.rider left.cleaner.swept }
     {
         let Seats {
             flusher,
@@ -104,11 +130,22 @@ impl<L: Realm, W: PageWriter, K: Given> Seats<L, W, K> {
             second,
             cleaner,
         } = self;
-        CrewState {
-            flusher: flusher.into_inner().into_own(),
-            first: first.into_inner().into_own(),
-            second: second.into_inner().into_own(),
-            cleaner: cleaner.into_inner().into_own(),
-        }
+        let (flusher, by_flusher) = flusher.into_inner().into_parts();
+        let (first, by_first) = first.into_inner().into_parts();
+        let (second, by_second) = second.into_inner().into_parts();
+        let (cleaner, by_cleaner) = cleaner.into_inner().into_parts();
+        let state = CrewState {
+            flusher,
+            first,
+            second,
+            cleaner,
+        };
+        let are_done = AreDone {
+            flusher: by_flusher,
+            first: by_first,
+            second: by_second,
+            cleaner: by_cleaner,
+        };
+        (state, are_done)
     }
 }

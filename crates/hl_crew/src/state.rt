@@ -1,27 +1,26 @@
 ghost use Rattle.std.specs.Prelude.{◌≡◌};
-ghost use Rattle.hl_crew.specs.Counting.{nothing, counted_with};
 ghost use Rattle.hl_crew.specs.Riders.{crew_of};
+ghost use Rattle.hl_crew.specs.Works.{all_counted, begun};
 
+use crate::cleaner::CleanerState;
 use crate::counts::Counts;
 use crate::crew::{Crew, CrewRiders};
 use crate::flusher::{Asked, FlusherState};
 use crate::writer::{Buffers, WriterState};
-use hl_words::{Realm, Rider};
+use hl_words::Realm;
 
 /// What each thread of a crew has of its own.
 pub(crate) struct CrewState<L: Realm, W> {
     pub(crate) flusher: FlusherState<L>,
     pub(crate) first: WriterState<L, W>,
     pub(crate) second: WriterState<L, W>,
-    pub(crate) cleaner: Rider<L>,
+    pub(crate) cleaner: CleanerState<L>,
 }
 
 impl<L: Realm, W> CrewState<L, W> {
     /// Returns each thread with its rider, and the two writers with a page writer each.
     pub(crate) fn of(crew: Crew<L, W>, buffers: (Buffers<L>, Buffers<L>)) -> CrewState<L, W>
-        ensures crew { crew_of result ≡ crew }
-        ensures counts { (result.flusher.counts ≡ nothing) × (result.first.counts ≡ nothing)
-            × (result.second.counts ≡ nothing) }
+        ensures { result ≡ begun crew }
     {
         let Crew {
             riders,
@@ -36,15 +35,14 @@ impl<L: Realm, W> CrewState<L, W> {
             },
             first: WriterState::new(riders.first_writer, first, buffers.0),
             second: WriterState::new(riders.second_writer, second, buffers.1),
-            cleaner: riders.cleaner,
+            cleaner: CleanerState::new(riders.cleaner),
         }
     }
 
-    /// Returns the crew, each at its place, and what its threads counted.
+    /// Returns the crew, each at its place, and what its threads counted. A page that the cleaner still keeps is given up.
     pub(crate) fn into_crew(self) -> (Crew<L, W>, Counts)
         ensures crew { result.0 ≡ crew_of self }
-        ensures counts { result.1
-            ≡ counted_with (counted_with self.flusher.counts self.first.counts) self.second.counts }
+        ensures counts { result.1 ≡ all_counted self }
     {
         let CrewState {
             flusher,
@@ -58,7 +56,7 @@ impl<L: Realm, W> CrewState<L, W> {
             flusher: flusher.rider,
             first_writer,
             second_writer,
-            cleaner,
+            cleaner: cleaner.into_rider(),
         };
         let crew = Crew {
             riders,

@@ -1,10 +1,13 @@
+ghost use Rattle.std.specs.Prelude.{is_none};
 ghost use Rattle.std.specs.Thread.{IsSend, IsSync};
-ghost use Rattle.hl_crew.specs.Riders.{IsGiven};
+ghost use Rattle.hl_crew.specs.Riders.{FailsPage, WritesPage};
+ghost use Rattle.hl_crew.specs.declared.state.CrewState.{CrewState};
+ghost use Rattle.hl_crew.specs.Works.{AreNamed, IsNamed, WritesBy};
 
 use crate::gate::Gate;
-use crate::given::Given;
+use crate::given::{Given, Left};
 use crate::run::Run;
-use crate::seats::{Seat, Seats};
+use crate::seats::{Done, Seat, Seats};
 use crate::sleepers::{AllTold, Sleeper};
 use crate::whole::Whole;
 use crate::writer::WriterState;
@@ -26,11 +29,13 @@ where
     G: Gate + Sync,
 {
     /// Runs the threads until all have ended. An error if a thread couldn't be made: those made are told to end.
-    pub(crate) fn run_threads<'y, W: PageWriter + Send, K: Given + Send>(
+    pub(crate) fn run_threads<'y, W: PageWriter + Send, K: Given<W> + Send>(
         &'y self,
         seats: &'y Seats<L, W, K>,
     ) -> Result<Whole, AllTold>
-        requires { IsGiven K.sizes K.serves self.now.domain.now self.now.channels }
+        requires named { (given : CrewState L W) × AreNamed F self.now.domain.now self.now.limits
+            (G.lets self.now.gate.now) (WritesPage W.has W.wrote) (FailsPage W.has W.failed) W.failures
+            (is_none self.now.channels) K.flusher K.first K.second K.cleaner given }
     {
         thread::scope(
             thread::scope_env(),
@@ -43,34 +48,42 @@ where
                 requires realm { IsSend L.row × IsSync L.row }
                 requires page_writer { IsSend W.row }
                 requires gate_shared { IsSync G.row }
-                requires given { IsSend K.row }
-                requires named { IsGiven K.sizes K.serves self.now.domain.now self.now.channels }
+                requires name { IsSend K.row }
+                requires named { (given : CrewState L W) × AreNamed F self.now.domain.now self.now.limits
+                    (G.lets self.now.gate.now) (WritesPage W.has W.wrote) (FailsPage W.has W.failed) W.failures
+                    (is_none self.now.channels) K.flusher K.first K.second K.cleaner given }
             { self.start(scope, seats) },
         )
     }
 
     // Makes the threads, the flusher behind the others. If it can't be made, these are told to end.
-    fn start<'s, 'y, W: PageWriter + Send, K: Given + Send>(
+    fn start<'s, 'y, W: PageWriter + Send, K: Given<W> + Send>(
         &'y self,
         scope: &'s Scope<'s, &'y ()>,
         seats: &'y Seats<L, W, K>,
     ) -> Result<Whole, AllTold>
-        requires { IsGiven K.sizes K.serves self.now.domain.now self.now.channels }
+        requires named { (given : CrewState L W) × AreNamed F self.now.domain.now self.now.limits
+            (G.lets self.now.gate.now) (WritesPage W.has W.wrote) (FailsPage W.has W.failed) W.failures
+            (is_none self.now.channels) K.flusher K.first K.second K.cleaner given }
     {
         let first = self.start_writer(scope, &seats.first, &self.sleepers.first);
         let second = self.start_writer(scope, &seats.second, &self.sleepers.second);
         let cleaner = scope
             .spawn(
-                move ||
-                    requires { IsGiven K.sizes K.serves self.now.domain.now self.now.channels }
+                move || -> Done
+                    requires named { (given : CrewState L W) × AreNamed F self.now.domain.now self.now.limits
+                        (G.lets self.now.gate.now) (WritesPage W.has W.wrote) (FailsPage W.has W.failed) W.failures
+                        (is_none self.now.channels) K.flusher K.first K.second K.cleaner given }
                 { self.run_cleaner(&seats.cleaner) },
             )
             .ok();
         let flusher = if first.is_some() && second.is_some() && cleaner.is_some() {
             scope
                 .spawn(
-                    move ||
-                        requires { IsGiven K.sizes K.serves self.now.domain.now self.now.channels }
+                    move || -> (Done, AllTold)
+                        requires named { (given : CrewState L W) × AreNamed F self.now.domain.now self.now.limits
+                            (G.lets self.now.gate.now) (WritesPage W.has W.wrote) (FailsPage W.has W.failed) W.failures
+                            (is_none self.now.channels) K.flusher K.first K.second K.cleaner given }
                     { self.run_flusher(&seats.flusher) },
                 )
                 .ok()
@@ -84,18 +97,22 @@ where
     }
 
     // Makes a writer's thread. `None` if it couldn't be made.
-    fn start_writer<'s, 'y, W: PageWriter + Send, K: Given + Send>(
+    fn start_writer<'s, 'y, W: PageWriter + Send, K: Left<WriterState<L, W>> + Send>(
         &'y self,
         scope: &'s Scope<'s, &'y ()>,
         own: &'y Mutex<Seat<WriterState<L, W>, K>>,
         sleeper: &'y Sleeper,
-    ) -> Option<JoinHandle<()>>
-        requires { IsGiven K.sizes K.serves self.now.domain.now self.now.channels }
+    ) -> Option<JoinHandle<Done>>
+        requires { IsNamed K.left (WritesBy F self.now.domain.now self.now.limits
+            (G.lets self.now.gate.now) (WritesPage W.has W.wrote) (FailsPage W.has W.failed) W.failures
+            (is_none self.now.channels)) }
     {
         scope
             .spawn(
-                move ||
-                    requires { IsGiven K.sizes K.serves self.now.domain.now self.now.channels }
+                move || -> Done
+                    requires { IsNamed K.left (WritesBy F self.now.domain.now self.now.limits
+                        (G.lets self.now.gate.now) (WritesPage W.has W.wrote) (FailsPage W.has W.failed) W.failures
+                        (is_none self.now.channels)) }
                 { self.run_writer(own, sleeper) },
             )
             .ok()

@@ -1,15 +1,14 @@
-ghost use Rattle.std.specs.Prelude.{◌≡◌, is_none, false, true};
+ghost use Rattle.std.specs.Prelude.{◌≡◌, is_none, false};
 ghost use Rattle.hl_crew.specs.Counting.{nothing};
-ghost use Rattle.hl_crew.specs.Pages.{FindsPage};
-ghost use Rattle.hl_crew.specs.Riders.{IsGiven, FailsPage, WritesOn, WritesPage};
-ghost use Rattle.hl_crew.specs.Rounds.{LooksOn};
+ghost use Rattle.hl_crew.specs.Riders.{FailsPage, WritesPage};
+ghost use Rattle.hl_crew.specs.Works.{IsNamed, WritesBy};
 
 use crate::counts::Counts;
 use crate::gate::Gate;
-use crate::given::Given;
+use crate::given::Left;
 use crate::messages::{Channels, Message};
 use crate::run::Run;
-use crate::seats::{HasRider, Seat};
+use crate::seats::{Done, Seat};
 use crate::sleepers::Sleeper;
 use hl_action::{Promise, Task};
 use hl_epoch::Epochs;
@@ -31,14 +30,6 @@ pub(crate) struct WriterState<L: Realm, W> {
     pub(crate) buffers: Buffers<L>,
     /// The flushes of the pages that it took itself.
     pub(crate) counts: Counts,
-}
-
-impl<L: Realm, W: PageWriter> HasRider for WriterState<L, W> {
-    ghost use Rattle.hl_crew.specs.Riders.{HasImages};
-
-    ghost rider_of = { λ own. own.rider };
-
-    ghost flushed = { λ sizes own. HasImages W.has sizes own.rider own.pages };
 }
 
 impl<L: Realm, W> WriterState<L, W> {
@@ -70,24 +61,28 @@ impl<L: Realm, W> WriterState<L, W> {
 
 impl<R: Wait, E: Epochs + Drop, F: Task, P: Promise, L: Realm, G: Gate> Run<'_, R, E, F, P, L, G> {
     /// A writer's thread: writes the pages that are sent; or takes pages itself, and sleeps here while there is none.
-    #[tactic(auto, using(crate::proofs::StateLaws::writer_as_given))]
-    pub(crate) fn run_writer<W: PageWriter, K: Given>(
+    pub(crate) fn run_writer<W: PageWriter, K: Left<WriterState<L, W>>>(
         &self,
         own: &Mutex<Seat<WriterState<L, W>, K>>,
         sleeper: &Sleeper,
-    )
-        requires { IsGiven K.sizes K.serves self.now.domain.now self.now.channels }
+    ) -> Done
+        requires { IsNamed K.left (WritesBy F self.now.domain.now self.now.limits
+            (G.lets self.now.gate.now) (WritesPage W.has W.wrote) (FailsPage W.has W.failed) W.failures
+            (is_none self.now.channels)) }
     {
-        let mut seat = own.lock(self.rt);
-        self.write_all(&mut seat.own, sleeper);
+        let mut guard = own.lock(self.rt);
+        let seat = &mut *guard;
+        if !seat.is_done {
+            self.write_all(&mut seat.own, sleeper);
+            seat.is_done = true;
+        }
+        seat.done()
     }
 
     // Writes its pages, which are sent or which it takes.
     fn write_all<W: PageWriter>(&self, own: &mut WriterState<L, W>, sleeper: &Sleeper)
-        ensures looks { is_none self.now.channels ≡ true → LooksOn (FindsPage F self.now.domain.now
-            self.now.limits.cuts (G.lets self.now.gate.now) (WritesPage W.has W.wrote)
-            (FailsPage W.has W.failed) W.failures) own.old own.new }
-        ensures works { WritesOn W.has (is_none self.now.channels) self.now.domain.now.sizes
+        ensures { WritesBy F self.now.domain.now self.now.limits (G.lets self.now.gate.now)
+            (WritesPage W.has W.wrote) (FailsPage W.has W.failed) W.failures (is_none self.now.channels)
             own.old own.new }
     {
         match &self.channels {
@@ -100,13 +95,14 @@ impl<R: Wait, E: Epochs + Drop, F: Task, P: Promise, L: Realm, G: Gate> Run<'_, 
 
     // Writes page after page, and acknowledges each, until it gets the message to stop or a channel fails.
     fn write_on<W: PageWriter>(&self, own: &mut WriterState<L, W>, channels: &Channels)
-        ensures { WritesOn W.has false self.now.domain.now.sizes own.old own.new }
+        ensures { WritesBy F self.now.domain.now self.now.limits (G.lets self.now.gate.now)
+            (WritesPage W.has W.wrote) (FailsPage W.has W.failed) W.failures false own.old own.new }
     {
         for _ in self.rt.forever() {
-            let Ok(Message::Write(held)) = channels.jobs_sent.recv(self.rt) else {
+            let Ok(Message::Write(taken)) = channels.jobs_sent.recv(self.rt) else {
                 return;
             };
-            let acknowledgement = self.write(own, held.job());
+            let acknowledgement = self.write(own, taken);
             let sent = channels.acknowledgements.send(self.rt, acknowledgement);
             if sent.is_err() {
                 return;

@@ -61,8 +61,8 @@ impl<R: Wait, E: Epochs + Drop, F: Task, P: Promise, L: Realm, G> Run<'_, R, E, 
             Err(Fault::NoneSealed) => return Ok(false),
             Err(fault) => return Err(Over::of(&fault)),
         };
-        let held = pouch.hold(load);
-        if channels.jobs.send(self.rt, Message::Write(held)).is_err() {
+        let taken = pouch.hold(load);
+        if channels.jobs.send(self.rt, Message::Write(taken)).is_err() {
             return Err(Over::Lost);
         }
         *sent += 1;

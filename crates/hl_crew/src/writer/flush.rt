@@ -6,7 +6,7 @@ ghost use Rattle.hl_crew.specs.Pages.{FindsPage, Flushes, Passes, PassesIf};
 ghost use Rattle.hl_crew.specs.Riders.{WritesPage, FailsPage};
 
 use crate::ends::{Accepted, Flush};
-use crate::gate::Gate;
+use crate::gate::{Gate, Taken};
 use crate::looks::{Look, Looker, or_nowhere};
 use crate::messages::Over;
 use crate::mode::Mode;
@@ -74,7 +74,7 @@ impl<R: Wait, E: Epochs + Drop, F: Task, P: Promise, L: Realm, G: Gate> Run<'_, 
             Err(Fault::NoneSealed) => return Ok(false),
             Err(fault) => return Err(Over::of(&fault)),
         };
-        let ok = self.write(own, load.job()).ok();
+        let ok = self.write(own, Taken::of(&load)).ok();
         let passed = self.flush_behind(own, ok, behind);
         let flush = Flush { load, ok };
         let accepted = self.end_by(&mut own.rider, flush)?;

@@ -2,11 +2,10 @@ ghost use Rattle.std.specs.Prelude.{◌≡◌, true};
 ghost use Rattle.hl_crew.specs.Pages.{Copies};
 ghost use Rattle.hl_crew.specs.Riders.{WritesPage, FailsPage};
 
-use crate::gate::Gate;
+use crate::gate::{Gate, Taken};
 use crate::run::Run;
 use crate::writer::WriterState;
 use hl_action::{Promise, Task};
-use hl_domain::PageJob;
 use hl_epoch::Epochs;
 use hl_image::{PageWriter, image_of};
 use hl_words::Realm;
@@ -45,23 +44,23 @@ impl<R: Wait, E: Epochs + Drop, F: Task, P: Promise, L: Realm, G: Gate> Run<'_, 
     pub(crate) fn write<W: PageWriter>(
         &self,
         own: &mut WriterState<L, W>,
-        job: PageJob,
+        taken: Taken,
     ) -> Acknowledgement
         ensures counts { own.new.counts ≡ own.old.counts }
-        ensures page { result.page ≡ job.page }
+        ensures page { result.page ≡ taken.job.page }
         ensures copies { Copies (G.lets self.now.gate.now) (WritesPage W.has W.wrote)
-            (FailsPage W.has W.failed) W.failures self.now.domain.now.sizes result.ok job
+            (FailsPage W.has W.failed) W.failures self.now.domain.now.sizes result.ok taken.job
             own.old.rider own.new.rider own.old.pages own.new.pages }
     {
-        let page = job.page;
-        if !self.may_write(page) {
+        let page = taken.page();
+        if !self.may_write(taken) {
             return Acknowledgement { page, ok: false };
         }
         self.domain.known();
         let buffers = &mut own.buffers;
         let copied = self
             .domain
-            .copy_page(job, &mut own.rider, &mut buffers.words);
+            .copy_page(taken.job(), &mut own.rider, &mut buffers.words);
         if copied.is_err() {
             return Acknowledgement { page, ok: false };
         }
@@ -73,12 +72,12 @@ impl<R: Wait, E: Epochs + Drop, F: Task, P: Promise, L: Realm, G: Gate> Run<'_, 
     }
 
     // Returns whether the gate lets the page be written. Between two asks other threads go on.
-    fn may_write(&self, page: u64) -> bool
-        ensures { result ≡ true → G.lets self.now.gate.now page }
+    fn may_write(&self, taken: Taken) -> bool
+        ensures { result ≡ true → G.lets self.now.gate.now taken.job.page }
     {
-        self.gate.begun(page);
+        self.gate.begun(taken);
         for _ in 0..ASKS {
-            if self.gate.may_write(page) {
+            if self.gate.may_write(taken.page()) {
                 return true;
             }
             thread::yield_now();

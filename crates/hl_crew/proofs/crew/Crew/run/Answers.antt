@@ -1,19 +1,42 @@
-use Rattle.std.proofs.Common.{◌≡◌, true, sym, ◌∙◌, subst₂, rules}
-use Rattle.std.specs.Prelude.{is_some}
-use Rattle.hl_crew.specs.Riders.{AllWorkOn, WritesPage, FailsPage}
-use Rattle.hl_crew.proofs.StateLaws.{all_as_given, ended_by_rounds}
+use Rattle.std.proofs.Common.{◌&&◌, sym, ◌∙◌, subst}
+use Rattle.hl_crew.specs.Riders.{AreAsGiven, WritesPage, FailsPage, riders_of}
+use Rattle.hl_crew.specs.Rounds.{RoundsIf}
+use Rattle.hl_crew.specs.Works.{AreNamed, begun}
+use Rattle.hl_crew.proofs.StateLaws.{crew_works, crew_worked, worked_if}
 use Rattle.hl_crew.proofs.crew.Crew.run.Goals as goal
 
--- what all threads and the last rounds keep of what they were given
+-- the crew's name says what its threads are given and do
+pub run_threads-requires-clause-named : goal.run_threads-requires-clause-named
+run_threads-requires-clause-named g c κs within = (
+  begun c.args.self,
+  subst (λ serves. AreNamed {L = g.row.L.Denot} {W = g.row.W.Denot} g.row.F.Denot c.args.domain.now c.args.limits (g.G.Gate.lets c.args.gate.now) (WritesPage g.W.PageWriter.has g.W.PageWriter.wrote) (FailsPage g.W.PageWriter.has g.W.PageWriter.failed) g.W.PageWriter.failures serves g.K.Given.flusher g.K.Given.first g.K.Given.second g.K.Given.cleaner (begun c.args.self))
+      (sym c.in-Ok.ensures.channels) c.requires.named,
+)
+
+-- each thread did its work, and so did the last rounds
+pub returns-clause-works : goal.returns-clause-works
+returns-clause-works g c =
+    let left = c.end-state.result.0 in
+    let last = c.end_rounds.new.state in
+    let done = c.end-state.result.1 in
+    let named = c.requires.named in
+    let rounds = subst (λ serves. RoundsIf {L = g.row.L.Denot} {W = g.row.W.Denot} g.row.F.Denot c.args.domain.now c.args.limits (g.G.Gate.lets c.args.gate.now) (WritesPage g.W.PageWriter.has g.W.PageWriter.wrote) (FailsPage g.W.PageWriter.has g.W.PageWriter.failed) g.W.PageWriter.failures (c.all.result && serves) left last)
+    c.in-Ok.ensures.channels c.end_rounds.ensures in
+    worked_if g.row.F.Denot c.args.domain.now c.args.limits (g.G.Gate.lets c.args.gate.now) (WritesPage g.W.PageWriter.has g.W.PageWriter.wrote) (FailsPage g.W.PageWriter.has g.W.PageWriter.failed) g.W.PageWriter.failures _ c.args.self c.into_crew-crew.result.0 c.of-2.result c.into_crew-crew.result.1 c.all-2.result
+    c.of-2.ensures.done c.of-2.ensures.counts
+    (λ all. crew_worked g.row.F.Denot c.args.domain.now c.args.limits (g.G.Gate.lets c.args.gate.now) (WritesPage g.W.PageWriter.has g.W.PageWriter.wrote) (FailsPage g.W.PageWriter.has g.W.PageWriter.failed) g.W.PageWriter.failures _ c.args.self c.into_crew-crew.result.0 c.into_crew-crew.result.1 left last
+    done.flusher done.first done.second done.cleaner c.all.result (sym c.all-2.ensures ∙ all) (c.all.ensures ∙ (sym c.all-2.ensures ∙ all)) ((named.flusher_is _ _).0 c.end-state.ensures.flusher) ((named.first_is _ _).0 c.end-state.ensures.first) ((named.second_is _ _).0 c.end-state.ensures.second) ((named.cleaner_is _ _).0 c.end-state.ensures.cleaner) rounds
+    (sym c.into_crew-crew.ensures.crew) (sym c.into_crew-crew.ensures.counts))
+
+-- what riders do that did a crew's work
 pub returns-clause-kept : goal.returns-clause-kept
 returns-clause-kept g c =
-    let serving = c.in-Ok.ensures.channels ∙ sym c.requires.given.2 in
-    let works = subst₂ (λ b z. AllWorkOn g.W.PageWriter.has b z c.end-state.result c.end_rounds.new.state) serving (sym c.requires.given.1) c.end_rounds.ensures.works in
-    rw c.into_crew-crew.ensures.crew (all_as_given g.W.PageWriter.has g.K.Given.serves g.K.Given.sizes g.K.Given.riders c.end-state.result c.end_rounds.new.state works c.end-state.ensures)
-
--- a crew all of whose threads were made ends by its rounds
-pub returns-clause-rounds : goal.returns-clause-rounds
-returns-clause-rounds g c ok =
-    let serving = c.in-Ok.ensures.channels ∙ sym c.requires.given.2 in
-    let whole : is_some c.ok-whole.result ≡ true = search rules in
-    ended_by_rounds g.row.F.Denot c.args.domain.now c.args.limits (g.G.Gate.lets c.args.gate.now) (WritesPage g.W.PageWriter.has g.W.PageWriter.wrote) (FailsPage g.W.PageWriter.has g.W.PageWriter.failed) g.W.PageWriter.failures (is_some c.ok-whole.result) _ g.K.Given.serves c.end-state.result c.end_rounds.new.state _ whole serving c.end_rounds.ensures.rounds c.into_crew-crew.ensures.crew
+    let left = c.end-state.result.0 in
+    let last = c.end_rounds.new.state in
+    let done = c.end-state.result.1 in
+    let named = c.requires.named in
+    let rounds = subst (λ serves. RoundsIf {L = g.row.L.Denot} {W = g.row.W.Denot} g.row.F.Denot c.args.domain.now c.args.limits (g.G.Gate.lets c.args.gate.now) (WritesPage g.W.PageWriter.has g.W.PageWriter.wrote) (FailsPage g.W.PageWriter.has g.W.PageWriter.failed) g.W.PageWriter.failures (c.all.result && serves) left last)
+    c.in-Ok.ensures.channels c.end_rounds.ensures in
+    subst (AreAsGiven g.W.PageWriter.has c.args.limits.cuts _ c.args.domain.now.sizes (riders_of c.args.self.riders)) (sym c.into_crew-crew.ensures.crew)
+    (crew_works g.W.PageWriter.has g.row.F.Denot c.args.domain.now c.args.limits (g.G.Gate.lets c.args.gate.now) g.W.PageWriter.wrote g.W.PageWriter.failed g.W.PageWriter.failures c.all.result _ done.flusher done.first done.second done.cleaner c.args.self left last
+    ((named.flusher_is _ _).0 c.end-state.ensures.flusher) ((named.first_is _ _).0 c.end-state.ensures.first) ((named.second_is _ _).0 c.end-state.ensures.second) ((named.cleaner_is _ _).0 c.end-state.ensures.cleaner) rounds)

@@ -1,11 +1,12 @@
-use Rattle.std.proofs.Common.{sym}
-use Rattle.hl_crew.proofs.StateLaws.{rider_as_given}
-use Rattle.hl_crew.proofs.RiderLaws.{cleaner_works}
+use Rattle.std.proofs.Common.{◌≡◌, false, true, rules, subst}
+use Rattle.hl_crew.specs.Works.{CleansBy}
 use Rattle.hl_crew.proofs.run.Run.run_cleaner.Goals as goal
 
--- the cleaner stores only to sweep, and flushes nothing
-pub invariant_of-behind-seat : goal.invariant_of-behind-seat
-invariant_of-behind-seat g c =
+-- the looks began with what the cleaner was given
+pub invariant_of-seat : goal.invariant_of-seat
+invariant_of-seat g c =
     let cleaner = c.args.self.now in
-    let works = cleaner_works g.K.Given.serves g.row.F.Denot cleaner.domain.now cleaner.limits.cuts _ _ _ _ c.clean_all.ensures in
-    rider_as_given g.K.Given.serves g.K.Given.sizes g.K.Given.riders _ _ (rw (sym c.requires.0) at works) c.behind-seat.invariant
+    let not_done : c.seat.inside.is_done ≡ false = search rules in
+    let was : c.seat.inside.own ≡ c.requires.0 = rw not_done at ((c.requires.1 c.seat.inside.is_done c.seat.inside.own).0 c.seat.invariant) in
+    let did : CleansBy g.row.F.Denot cleaner.domain.now cleaner.limits c.seat.inside.own c.clean_all.new.own = (c.clean_all.result, rw c.turns.ensures at c.clean_all.ensures) in
+    (c.requires.1 true c.clean_all.new.own).1 (subst (λ own. CleansBy g.row.F.Denot cleaner.domain.now cleaner.limits own c.clean_all.new.own) was did)
