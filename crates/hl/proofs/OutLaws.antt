@@ -21,7 +21,9 @@ use Rattle.hl_image.specs.Pages.{Pages, image_at}
 use Rattle.hl_images.specs.Kept.{RiderEnters}
 use Rattle.hl_images.specs.Sweeps.{StoresSweep}
 use Rattle.hl_crew.specs.declared.crew.Crew.{Crew}
-use Rattle.hl_crew.specs.Riders.{AreImaged, FlushesNone, MakesCrewSteps, riders_of}
+use Rattle.hl_crew.specs.declared.limits.Cuts.TheVariants.{Never}
+use Rattle.hl_crew.specs.Limited.{duty_cuts}
+use Rattle.hl_crew.specs.Riders.{AreImaged, CutsNone, FlushesNone, MakesCrewSteps, riders_of}
 use Rattle.hl.specs.declared.memory.MemoryDevice.{MemoryDevice}
 use Rattle.hl.specs.Devices.{device_has, has_page, on_memory}
 use Rattle.hl.specs.Sessions.{SessionState, beside_crew}
@@ -138,8 +140,8 @@ module _ {Out : Type 0} (F : Type 0) (log : DomainState) (may_cut : Bool) (Retur
   -- results and riders of threads whose riders were new, with a crew's riders behind
   pub with_crew : (Took : ℕ → List ℕ → Type 0) (total : ℕ) (all olds crew : List RiderState) (outs : List (Result Out Fault)) (news back : List RiderState)
       → all ≡ new_riders total → all ≡ olds ++ crew → length outs ≡ length olds → length news ≡ length olds → length crew ≡ 4 → length back ≡ 4
-      → AllByRecursion (StoresSweep log.sizes) back → AllByRecursion (RiderEnters log.sizes) back → AllByRecursion MakesCrewSteps back → AllByRecursion (FlushesTaken Took log.sizes) back → AreReturned F log may_cut Returns (rider_at olds) outs news → CountReturned F log may_cut Returns Took total outs (news ++ back)
-  with_crew Took total all olds crew outs news back new parts long many four others sweeps enters makes taken each =
+      → AllByRecursion (StoresSweep log.sizes) back → AllByRecursion (RiderEnters log.sizes) back → AllByRecursion MakesCrewSteps back → (may_cut ≡ false → AllByRecursion CutsNone back) → AllByRecursion (FlushesTaken Took log.sizes) back → AreReturned F log may_cut Returns (rider_at olds) outs news → CountReturned F log may_cut Returns Took total outs (news ++ back)
+  with_crew Took total all olds crew outs news back new parts long many four others sweeps enters makes keeps taken each =
       let count : length olds + 4 ≡ total = omega (arith, ap length parts, length-append olds crew, four, ap length new, new_long total) in
       let crews : drop (length outs) (news ++ back) ≡ back = drop_at news back (length outs) (many ∙ sym long) in
       record {
@@ -153,8 +155,14 @@ module _ {Out : Type 0} (F : Type 0) (log : DomainState) (may_cut : Bool) (Retur
         sweeps = subst (AllByRecursion (StoresSweep log.sizes)) (sym crews) sweeps;
         enters = subst (AllByRecursion (RiderEnters log.sizes)) (sym crews) enters;
         makes = subst (AllByRecursion MakesCrewSteps) (sym crews) makes;
+        keeps = λ kept. subst (AllByRecursion CutsNone) (sym crews) (keeps kept);
         images = subst (AllByRecursion (FlushesTaken Took log.sizes)) (sym crews) taken;
       }
+
+-- a duty that cuts at no number of steps never cuts
+pub never_cuts : (above : Option ℕ) → is_some above ≡ false → duty_cuts above ≡ Never
+never_cuts None none = refl
+never_cuts (Some steps) none = absurd cc
 
 -- what all threads returned, where the crew served, or why it was refused
 pub gathered : {Out S : Type 0} (F : Type 0) (log : DomainState) (may_cut : Bool) (Returns : ℕ → SessionState → SessionState → Out → Type 0) (Took : ℕ → List ℕ → Type 0) (total : ℕ) (served : Result S Fault) (outs : Result (Vec (Result Out Fault) Global) Fault) (returned : List (Result Out Fault)) (riders : List RiderState)

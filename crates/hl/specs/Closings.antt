@@ -1,5 +1,5 @@
 -- What is left of a log that was opened and closed by one call.
-use Rattle.std.specs.Prelude.{◌≡◌, ◌≢◌, ◌<◌, ◌+◌, ◌⊎◌, ℕ, Bool, true, Option, Result, Ok, Err, IfErr, MatchResult, List, ◌∷◌, length, map, drop, slice_index_or, Vec}
+use Rattle.std.specs.Prelude.{◌≡◌, ◌≢◌, ◌<◌, ◌+◌, ◌⊎◌, ℕ, Bool, true, false, Option, Result, Ok, Err, IfOk, IfErr, MatchResult, List, ◌∷◌, length, map, drop, slice_index_or, Vec}
 use Rattle.std.specs.List.{AllByRecursion}
 use Rattle.std.specs.declared.alloc.Global.{Global}
 use Rattle.hl_model.specs.declared.fault.Fault.{Fault}
@@ -13,7 +13,10 @@ use Rattle.hl_images.specs.Kept.{RiderEnters}
 use Rattle.hl_memory.specs.declared.act.Act.TheVariants.{Met}
 use Rattle.hl_memory.specs.Traces.{trace, RiderTraces, PassTraces}
 use Rattle.hl_images.specs.Sweeps.{StoresSweep}
-use Rattle.hl_crew.specs.Riders.{has_flushed, FlushesNone, MakesCrewSteps, RidersStay}
+use Rattle.hl_crew.specs.declared.crew.CrewReport.{CrewReport}
+use Rattle.hl_crew.specs.declared.duty.Duty.{Duty}
+use Rattle.hl_crew.specs.Limited.{duty_cuts, duty_limits}
+use Rattle.hl_crew.specs.Riders.{has_flushed, CutsNone, FlushesNone, MakesCrewSteps, RidersStay}
 use Rattle.hl.specs.declared.open.Closed.{Closed}
 use Rattle.hl.specs.declared.opening.Opening.{Opening}
 use Rattle.hl.specs.declared.memory.MemoryDevice.{MemoryDevice}
@@ -97,18 +100,20 @@ abbrev pub FlushesTaken : (ℕ → List ℕ → Type 0) → Sizes → RiderState
 FlushesTaken Took sizes r = (page : ℕ) → has_flushed page r.calls ≡ true
     → (words : List ℕ) × Took page (image page words) × HasFlushed sizes page words r
 
--- a crew served, or was refused since memory was: its riders, which were these and are these, stayed a crew's; and if they
--- had flushed none, this holds of the image of each page that they flushed
-pub record HasServed {X : Type 0} (sizes : Sizes) (Took : ℕ → List ℕ → Type 0) (olds riders : List RiderState)
-    (result : Result X Fault) : Type 0 where
+-- a crew served by this duty, or was refused since memory was: its riders, which were these and are these, stayed a crew's,
+-- and cut nothing if the duty never cuts; and if they had flushed none, this holds of the image of each page that they
+-- flushed
+pub record HasServed (duty : Duty) (sizes : Sizes) (Took : ℕ → List ℕ → Type 0) (olds riders : List RiderState)
+    (result : Result CrewReport Fault) : Type 0 where
   pub memory : IfErr result (λ fault. fault ≡ OutOfMemory)
-  pub stay : RidersStay sizes olds riders
+  pub limits : IfOk result (λ report. report.limits ≡ duty_limits duty)
+  pub stay : RidersStay (duty_cuts duty.cut_above) sizes olds riders
   pub images : AllByRecursion FlushesNone olds → AllByRecursion (FlushesTaken Took sizes) riders
 
 -- a thread for each of so many riders, but the crew's four, has such a result, and its rider was the new one of its
 -- number; all riders came back, those of the threads in their order before the crew's. Each of these stored into cells only
--- to sweep pages, each store of it is entered, its calls made steps of a crew alone, and of the image of each page that it
--- flushed this holds
+-- to sweep pages, each store of it is entered, its calls made steps of a crew alone, and cut nothing where a full journal may
+-- not be cut; and of the image of each page that it flushed this holds
 pub record CountReturned {Out : Type 0} (F : Type 0) (log : DomainState) (may_cut : Bool)
     (Returns : ℕ → SessionState → SessionState → Out → Type 0) (Took : ℕ → List ℕ → Type 0) (count : ℕ)
     (outs : List (Result Out Fault)) (riders : List RiderState) : Type 0 where
@@ -118,6 +123,7 @@ pub record CountReturned {Out : Type 0} (F : Type 0) (log : DomainState) (may_cu
   pub sweeps : AllByRecursion (StoresSweep log.sizes) (drop (length outs) riders)
   pub enters : AllByRecursion (RiderEnters log.sizes) (drop (length outs) riders)
   pub makes : AllByRecursion MakesCrewSteps (drop (length outs) riders)
+  pub keeps : may_cut ≡ false → AllByRecursion CutsNone (drop (length outs) riders)
   pub images : AllByRecursion (FlushesTaken Took log.sizes) (drop (length outs) riders)
 
 -- so it is of all riders of the log

@@ -63,7 +63,7 @@ pub use hl_action::Task;
 pub use hl_counts::CountTable;
 /// Four riders and two page writers, which serve a log until its [`Stop`] is given.
 pub use hl_crew::{
-    Crew, CrewEnd, CrewReport, CrewRiders, Cuts, Duty, Gate, Limits, OpenGate, run_crew,
+    Crew, CrewEnd, CrewReport, CrewRiders, Cuts, Duty, Gate, Limits, OpenGate, Taken, run_crew,
 };
 /// What ends a crew, and wakes it.
 pub use hl_crew::Stop;

@@ -76,7 +76,8 @@ impl<R: Threads + Wait + Sync, P: Work<R> + Sync> Shared<'_, R, P> {
             self.rt,
             || -> Served<L>
                 requires { self.now.duty.frames ≡ log.now.sizes.frames }
-                ensures { HasServed log.entry.now.sizes (device_has (P.took self.entry.now.work.now) result.1)
+                ensures { HasServed self.entry.now.duty log.entry.now.sizes
+                    (device_has (P.took self.entry.now.work.now) result.1)
                     (riders_of crew) (riders_of result.0) result.2 × (is_some result.1 ≡ is_some device) }
             { self.serve_behind(log, crew, device, &stop) },
             || -> Told<Result<Vec<Worked<L, P::Out>>, AllocError>>
@@ -156,7 +157,7 @@ impl<R: Threads + Wait + Sync, P: Work<R> + Sync> Shared<'_, R, P> {
         stop: &Stop,
     ) -> Served<L>
         requires { self.now.duty.frames ≡ log.now.sizes.frames }
-        ensures { HasServed log.now.sizes (device_has (P.took self.now.work.now) result.1)
+        ensures { HasServed self.now.duty log.now.sizes (device_has (P.took self.now.work.now) result.1)
             (riders_of riders) (riders_of result.0)
             result.2 × (is_some result.1 ≡ is_some device) }
     {
@@ -174,7 +175,7 @@ impl<R: Threads + Wait + Sync, P: Work<R> + Sync> Shared<'_, R, P> {
         requires duty { self.now.duty.frames ≡ log.now.sizes.frames }
         requires work { T.work ≡ Some self.now.work.now }
         requires kind { T.in_memory ≡ is_some device }
-        ensures { HasServed log.now.sizes (device_has (P.took self.now.work.now) result.1)
+        ensures { HasServed self.now.duty log.now.sizes (device_has (P.took self.now.work.now) result.1)
             (riders_of riders) (riders_of result.0)
             result.2 × (is_some result.1 ≡ is_some device) }
     {

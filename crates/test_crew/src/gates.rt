@@ -1,4 +1,4 @@
-use hl_crew::Gate;
+use hl_crew::{Gate, Taken};
 use std::sync::atomic::{AtomicBool, AtomicU64, Ordering};
 
 /// Holds page 0 until page 1 has begun.
@@ -16,8 +16,8 @@ impl HoldsFirst {
 }
 
 impl Gate for HoldsFirst {
-    fn begun(&self, page: u64) {
-        if page == 1 {
+    fn begun(&self, taken: Taken) {
+        if taken.page() == 1 {
             self.has_begun.store(true, Ordering::SeqCst);
         }
     }
@@ -46,7 +46,7 @@ impl KeepsFirst {
 }
 
 impl Gate for KeepsFirst {
-    fn begun(&self, _page: u64) {}
+    fn begun(&self, _taken: Taken) {}
 
     fn may_write(&self, page: u64) -> bool {
         if page == 0 {

@@ -1,4 +1,4 @@
-use Rattle.std.proofs.Common.{rules, arith, ◌≡◌, ◌<◌, ◌++◌, map, length, refl, ◌∙◌}
+use Rattle.std.proofs.Common.{rules, arith, ◌≡◌, ◌<◌, ◌++◌, false, map, length, refl, ◌∙◌}
 use Rattle.std.specs.Prelude.{is_some}
 use Rattle.std.specs.List.{AllByRecursion}
 use Rattle.std.proofs.lemmas.List.{length-map}
@@ -7,10 +7,11 @@ use Rattle.hl_images.specs.Sweeps.{StoresSweep}
 use Rattle.hl_images.proofs.KeptLaws.{riders_stay_entered}
 use Rattle.hl_memory.specs.Traces.{RiderTraces}
 use Rattle.hl_memory.proofs.TraceLaws.{new_traces}
-use Rattle.hl_crew.specs.Riders.{FlushesNone, MakesCrewSteps, RidersStay, riders_of}
+use Rattle.hl_crew.specs.Limited.{duty_cuts}
+use Rattle.hl_crew.specs.Riders.{CutsNone, FlushesNone, MakesCrewSteps, RidersStay, riders_of}
 use Rattle.hl.specs.Devices.{device_has}
 use Rattle.hl.specs.Closings.{rider_at, AreReturned, CountReturned, FlushesTaken}
-use Rattle.hl.proofs.OutLaws.{threads_given, crew_given, new_sweeps, new_flushes, with_crew, gathered}
+use Rattle.hl.proofs.OutLaws.{threads_given, crew_given, new_sweeps, new_flushes, never_cuts, with_crew, gathered}
 use Rattle.hl.proofs.shared.Shared.run_all.Goals as goal
 
 -- the threads' riders are new
@@ -45,12 +46,14 @@ returns-in-Ok-gather_all-clause-left g c =
     let none_given : AllByRecursion FlushesNone (riders_of c.in-Some.crew) = crew_given FlushesNone new_flushes total c.args.riders.items olds (riders_of c.in-Some.crew) c.requires.new c.in-Some.ensures.taken in
     let enter_given : AllByRecursion (RiderEnters log.sizes) (riders_of c.in-Some.crew) = crew_given (RiderEnters log.sizes) (riders_stay_entered log.sizes).new total c.args.riders.items olds (riders_of c.in-Some.crew) c.requires.new c.in-Some.ensures.taken in
     let make_given : AllByRecursion MakesCrewSteps (riders_of c.in-Some.crew) = crew_given MakesCrewSteps (λ name. tt) total c.args.riders.items olds (riders_of c.in-Some.crew) c.requires.new c.in-Some.ensures.taken in
-    let stay : RidersStay log.sizes (riders_of c.in-Some.crew) back = search rules in
+    let keep_given : AllByRecursion CutsNone (riders_of c.in-Some.crew) = crew_given CutsNone (λ name. tt) total c.args.riders.items olds (riders_of c.in-Some.crew) c.requires.new c.in-Some.ensures.taken in
+    let stay : RidersStay (duty_cuts c.args.self.now.duty.cut_above) log.sizes (riders_of c.in-Some.crew) back = search rules in
     let sweeps = stay.sweeps sweep_given in
     let enters = stay.enters enter_given in
     let makes = stay.makes make_given in
+    let keeps = λ (kept : may_cut ≡ false). stay.keeps (never_cuts c.args.self.now.duty.cut_above kept) keep_given in
     let taken : AllByRecursion (FlushesTaken Took log.sizes) back = search (rules, none_given) in
     let all : CountReturned g.row.P-Job.Denot log may_cut Returns Took total (map (λ one. one.0) worked) (map (λ one. one.1) worked ++ back) =
-    with_crew g.row.P-Job.Denot log may_cut Returns Took total c.args.riders.items olds (riders_of c.in-Some.crew) (map (λ one. one.0) worked) (map (λ one. one.1) worked) back c.requires.new c.in-Some.ensures.taken (length-map worked (λ one. one.0) ∙ known.0) (length-map worked (λ one. one.1) ∙ known.0) refl refl sweeps enters makes taken known.1 in
+    with_crew g.row.P-Job.Denot log may_cut Returns Took total c.args.riders.items olds (riders_of c.in-Some.crew) (map (λ one. one.0) worked) (map (λ one. one.1) worked) back c.requires.new c.in-Some.ensures.taken (length-map worked (λ one. one.0) ∙ known.0) (length-map worked (λ one. one.1) ∙ known.0) refl refl sweeps enters makes keeps taken known.1 in
     let here : CountReturned g.row.P-Job.Denot log may_cut Returns Took total (map (λ one. one.0) worked) c.in-Ok-gather_all.all.1.items = rw riders all in
     gathered g.row.P-Job.Denot log may_cut Returns Took total joined.2 c.in-Ok-gather_all.all.0 (map (λ one. one.0) worked) c.in-Ok-gather_all.all.1.items (search rules) (search rules) (search rules) here

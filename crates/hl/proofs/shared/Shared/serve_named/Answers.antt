@@ -9,6 +9,7 @@ returns g c =
     let other = c.into_memory.ensures in (
       record {
         memory = search rules;
+        limits = c.serve-crew.ensures.limits;
         stay = c.serve-crew.ensures.kept.stay;
         images = λ none.
             sinks_taken g.P.Work.took c.args.self.now.work.now g.T.Named.work (λ sink. sink.memory) c.args.log.now.sizes c.serve-crew.result.0 c.of_parts-device.result c.requires.work
