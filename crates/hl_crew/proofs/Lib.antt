@@ -7,5 +7,6 @@ pub mod GoesLaws
 pub mod TryLaws
 pub mod RepeatLaws
 pub mod RiderLaws
+pub mod CleanerLaws
 pub mod WriterLaws
 pub mod StateLaws

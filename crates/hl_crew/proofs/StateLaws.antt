@@ -21,7 +21,8 @@ use Rattle.hl_crew.specs.Rounds.{MakesRound, RoundsIf, HasWorked}
 use Rattle.hl_crew.specs.Runs.{TurnsBy}
 use Rattle.hl_crew.specs.Works.{WritesBy, CleansBy, begun, counts_of, all_counted, IsLeft}
 use Rattle.hl_crew.proofs.RepeatLaws.{up_to_holds}
-use Rattle.hl_crew.proofs.RiderLaws.{no_more, then, turned_works, flusher_works, cleaner_same, cleaner_then, cleaner_works}
+use Rattle.hl_crew.proofs.CleanerLaws.{cleaner_same, cleaner_then, cleaner_works}
+use Rattle.hl_crew.proofs.RiderLaws.{no_more, then, turned_works, flusher_works}
 use Rattle.hl_crew.proofs.WriterLaws.{writer_same, writer_then, writer_looks, writer_works}
 
 -- what holds of a thread that did its work, and of one that did nothing

@@ -51,8 +51,8 @@ CutsNothing _ = Unit {0}
 abbrev pub CutsNone : RiderState → Type 0
 CutsNone r = AllByRecursion CutsNothing r.view.touches
 
--- Whatever all riders of a crew did before, those that it hands back do: they store only to sweep pages, each store of them
--- is entered, their calls made steps of a crew alone, and cut no step, if the crew never cuts
+-- Whatever all riders of a crew did before, those that it hands back do: they store only to sweep pages, each store of
+-- them is entered, their calls made steps of a crew alone, and cut no step, if the crew never cuts
 pub record RidersStay (cuts : Cuts) (sizes : Sizes) (given riders : List RiderState) : Type 0 where
   pub sweeps : AllByRecursion (StoresSweep sizes) given → AllByRecursion (StoresSweep sizes) riders
   pub enters : AllByRecursion (RiderEnters sizes) given → AllByRecursion (RiderEnters sizes) riders
@@ -108,8 +108,8 @@ pub record WorksOn (cuts : Cuts) (serves : Bool) (sizes : Sizes) (old new : Ride
   pub flushes : serves ≡ true → (p : ℕ) → has_flushed p new.calls ≡ has_flushed p old.calls
 
 -- the same of a writer: if the crew serves, its rider flushed only pages whose images it wrote
-pub record WritesOn {L W : Type 0} (has : W → ℕ → List ℕ → Type 0) (cuts : Cuts) (serves : Bool) (sizes : Sizes)
-    (old new : WriterState L W) : Type 0 where
+pub record WritesOn {L W : Type 0} (has : W → ℕ → List ℕ → Type 0) (cuts : Cuts) (serves : Bool)
+    (sizes : Sizes) (old new : WriterState L W) : Type 0 where
   pub later : IsLater old.rider new.rider
   pub sweeps : StoresSweep sizes old.rider → StoresSweep sizes new.rider
   pub enters : RiderEnters sizes old.rider → RiderEnters sizes new.rider
@@ -154,8 +154,8 @@ crew_of state = record {
   second = state.second.pages;
 }
 
--- so it is with all riders of a crew, by the page writers that it has; and if it serves, this holds of what they flushed, if
--- those that it was given had flushed nothing
+-- so it is with all riders of a crew, by the page writers that it has; and if it serves, this holds of what they flushed,
+-- if those that it was given had flushed nothing
 pub record AreAsGiven {L W : Type 0} (has : W → ℕ → List ℕ → Type 0) (cuts : Cuts) (serves : Bool)
     (sizes : Sizes) (given : List RiderState) (crew : Crew L W) : Type 0 where
   pub stay : RidersStay cuts sizes given (riders_of crew.riders)

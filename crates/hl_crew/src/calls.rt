@@ -144,11 +144,12 @@ impl<L: Realm, W> Crew<L, W> {
     /// nothing to do. Once all threads have ended, the calling thread makes at most 1,000 rounds, of a turn of the
     /// flusher and all looks of the others, up to the first in which the flusher got nowhere or failed: so it ends once
     /// nothing is in flight. If the journal is full, it cuts it where the duty lets it; else a full journal ends it
-    /// before its stop. The crew comes back, whatever it met, and its report has the duty's limits. Of what the riders
-    /// stored, and of the steps of their calls, the same holds. If they had flushed nothing, then each page that those which come back flushed is with
-    /// the writer of that rider, as the image of the words that the rider copied between its take and its answer: at
-    /// the domain's end it is an image of the page, by `hl_images`. Of a page whose write failed, or whose answer was
-    /// refused, nothing is said.
+    /// before its stop. The crew comes back, whatever it met. Its report has the duty's limits, within which all threads
+    /// did their work, and counts what they counted. Of what the riders stored, and of the steps of their calls, the
+    /// same holds as there; and by a duty that never cuts they cut no step, if they hadn't. If they had flushed nothing,
+    /// then each page that those which come back flushed is with the writer of that rider, as the image of the words that
+    /// the rider copied between its take and its answer: at the domain's end it is an image of the page, by `hl_images`.
+    /// Of a page whose write failed, or whose answer was refused, nothing is said.
     ///
     /// A thread that has entered a page may wake it by [`Stop::ring`]; a crew that nobody wakes looks at least
     /// every 160 milliseconds, and sooner after it had something to do.
@@ -190,8 +191,8 @@ impl<L: Realm, W> Crew<L, W> {
         self.run::<R, E, F, P, G, Brand>(rt, alloc, domain, gate, limits, mode)
     }
 
-    // Runs a crew within these limits, in this mode. One that serves then makes its last turns. The name says what its threads
-    // are given and do.
+    // Runs a crew within these limits, in this mode. One that serves then makes its last turns. The name says what its
+    // threads are given and do.
     fn run<R, E, F, P, G, K>(
         self,
         rt: &R,

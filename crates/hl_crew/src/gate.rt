@@ -2,8 +2,8 @@ ghost use Rattle.std.specs.Prelude.{◌≡◌, ℕ, true, ⊤};
 
 use hl_domain::{Load, PageJob};
 
-/// A page that was taken to be flushed. Only [`Taken::of`] makes one, of its load: so no other page is sent to a writer, or
-/// told to a gate.
+/// A page that was taken to be flushed. Only [`Taken::of`] makes one, of its load: so no other page is sent to a writer,
+/// or told to a gate.
 #[derive(Clone, Copy)]
 pub struct Taken {
     job: PageJob,

@@ -4,8 +4,9 @@ use crate::writer::WriterState;
 use hl_words::Realm;
 use std::marker::{Brand, PhantomData};
 
-/// Names what is known of what each thread of a crew has of its own, with whether it has done its work. What lies under a
-/// lock is known by its type alone: by this name the type can say what the thread was given, and what it does from there on.
+/// Names what is known of what each thread of a crew has of its own, with whether it has done its work. What lies under
+/// a lock is known by its type alone: by this name the type can say what the thread was given, and what it does from
+/// there on.
 pub(crate) trait Given<W> {
     ghost use Rattle.std.specs.Prelude.{Bool, Option};
     ghost use Rattle.hl_words.specs.States.{RiderState};

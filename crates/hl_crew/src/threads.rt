@@ -33,8 +33,9 @@ where
         &'y self,
         seats: &'y Seats<L, W, K>,
     ) -> Result<Whole, AllTold>
-        requires named { (given : CrewState L W) × AreNamed F self.now.domain.now self.now.limits
-            (G.lets self.now.gate.now) (WritesPage W.has W.wrote) (FailsPage W.has W.failed) W.failures
+        requires named { (given : CrewState L W)
+            × AreNamed F self.now.domain.now self.now.limits (G.lets self.now.gate.now)
+            (WritesPage W.has W.wrote) (FailsPage W.has W.failed) W.failures
             (is_none self.now.channels) K.flusher K.first K.second K.cleaner given }
     {
         thread::scope(
@@ -49,8 +50,9 @@ where
                 requires page_writer { IsSend W.row }
                 requires gate_shared { IsSync G.row }
                 requires name { IsSend K.row }
-                requires named { (given : CrewState L W) × AreNamed F self.now.domain.now self.now.limits
-                    (G.lets self.now.gate.now) (WritesPage W.has W.wrote) (FailsPage W.has W.failed) W.failures
+                requires named { (given : CrewState L W)
+                    × AreNamed F self.now.domain.now self.now.limits (G.lets self.now.gate.now)
+                    (WritesPage W.has W.wrote) (FailsPage W.has W.failed) W.failures
                     (is_none self.now.channels) K.flusher K.first K.second K.cleaner given }
             { self.start(scope, seats) },
         )
@@ -62,8 +64,9 @@ where
         scope: &'s Scope<'s, &'y ()>,
         seats: &'y Seats<L, W, K>,
     ) -> Result<Whole, AllTold>
-        requires named { (given : CrewState L W) × AreNamed F self.now.domain.now self.now.limits
-            (G.lets self.now.gate.now) (WritesPage W.has W.wrote) (FailsPage W.has W.failed) W.failures
+        requires named { (given : CrewState L W)
+            × AreNamed F self.now.domain.now self.now.limits (G.lets self.now.gate.now)
+            (WritesPage W.has W.wrote) (FailsPage W.has W.failed) W.failures
             (is_none self.now.channels) K.flusher K.first K.second K.cleaner given }
     {
         let first = self.start_writer(scope, &seats.first, &self.sleepers.first);
@@ -71,8 +74,9 @@ where
         let cleaner = scope
             .spawn(
                 move || -> Done
-                    requires named { (given : CrewState L W) × AreNamed F self.now.domain.now self.now.limits
-                        (G.lets self.now.gate.now) (WritesPage W.has W.wrote) (FailsPage W.has W.failed) W.failures
+                    requires named { (given : CrewState L W)
+                        × AreNamed F self.now.domain.now self.now.limits (G.lets self.now.gate.now)
+                        (WritesPage W.has W.wrote) (FailsPage W.has W.failed) W.failures
                         (is_none self.now.channels) K.flusher K.first K.second K.cleaner given }
                 { self.run_cleaner(&seats.cleaner) },
             )
@@ -81,8 +85,9 @@ where
             scope
                 .spawn(
                     move || -> (Done, AllTold)
-                        requires named { (given : CrewState L W) × AreNamed F self.now.domain.now self.now.limits
-                            (G.lets self.now.gate.now) (WritesPage W.has W.wrote) (FailsPage W.has W.failed) W.failures
+                        requires named { (given : CrewState L W)
+                            × AreNamed F self.now.domain.now self.now.limits (G.lets self.now.gate.now)
+                            (WritesPage W.has W.wrote) (FailsPage W.has W.failed) W.failures
                             (is_none self.now.channels) K.flusher K.first K.second K.cleaner given }
                     { self.run_flusher(&seats.flusher) },
                 )
@@ -104,15 +109,15 @@ where
         sleeper: &'y Sleeper,
     ) -> Option<JoinHandle<Done>>
         requires { IsNamed K.left (WritesBy F self.now.domain.now self.now.limits
-            (G.lets self.now.gate.now) (WritesPage W.has W.wrote) (FailsPage W.has W.failed) W.failures
-            (is_none self.now.channels)) }
+            (G.lets self.now.gate.now) (WritesPage W.has W.wrote)
+            (FailsPage W.has W.failed) W.failures (is_none self.now.channels)) }
     {
         scope
             .spawn(
                 move || -> Done
                     requires { IsNamed K.left (WritesBy F self.now.domain.now self.now.limits
-                        (G.lets self.now.gate.now) (WritesPage W.has W.wrote) (FailsPage W.has W.failed) W.failures
-                        (is_none self.now.channels)) }
+                        (G.lets self.now.gate.now) (WritesPage W.has W.wrote)
+                        (FailsPage W.has W.failed) W.failures (is_none self.now.channels)) }
                 { self.run_writer(own, sleeper) },
             )
             .ok()
