@@ -1,5 +1,5 @@
 -- What is left of a log that was opened and closed by one call.
-use Rattle.std.specs.Prelude.{◌≡◌, ◌≢◌, ◌<◌, ◌+◌, ◌⊎◌, ℕ, Bool, true, false, Option, Result, Ok, Err, IfOk, IfErr, MatchResult, List, ◌∷◌, length, map, drop, slice_index_or, Vec}
+use Rattle.std.specs.Prelude.{⊤, ◌≡◌, ◌≢◌, ◌<◌, ◌+◌, ◌⊎◌, ℕ, Bool, true, false, Option, Result, Ok, Err, IfOk, IfErr, MatchResult, List, ◌∷◌, length, map, drop, slice_index_or, Vec}
 use Rattle.std.specs.List.{AllByRecursion}
 use Rattle.std.specs.declared.alloc.Global.{Global}
 use Rattle.hl_model.specs.declared.fault.Fault.{Fault}
@@ -13,10 +13,14 @@ use Rattle.hl_images.specs.Kept.{RiderEnters}
 use Rattle.hl_memory.specs.declared.act.Act.TheVariants.{Met}
 use Rattle.hl_memory.specs.Traces.{trace, RiderTraces, PassTraces}
 use Rattle.hl_images.specs.Sweeps.{StoresSweep}
+use Rattle.hl_crew.specs.declared.crew.Crew.{Crew}
 use Rattle.hl_crew.specs.declared.crew.CrewReport.{CrewReport}
+use Rattle.hl_crew.specs.declared.crew.CrewRiders.{CrewRiders}
 use Rattle.hl_crew.specs.declared.duty.Duty.{Duty}
 use Rattle.hl_crew.specs.Limited.{duty_cuts, duty_limits}
-use Rattle.hl_crew.specs.Riders.{has_flushed, CutsNone, FlushesNone, MakesCrewSteps, RidersStay}
+use Rattle.hl_crew.specs.Riders.{has_flushed, CutsNone, FlushesNone, MakesCrewSteps, RidersStay, WritesPage, FailsPage}
+use Rattle.hl_crew.specs.Rounds.{HasWorked}
+use Rattle.hl_crew.specs.Works.{counts_of}
 use Rattle.hl.specs.declared.open.Closed.{Closed}
 use Rattle.hl.specs.declared.opening.Opening.{Opening}
 use Rattle.hl.specs.declared.memory.MemoryDevice.{MemoryDevice}
@@ -109,6 +113,18 @@ pub record HasServed (duty : Duty) (sizes : Sizes) (Took : ℕ → List ℕ → 
   pub limits : IfOk result (λ report. report.limits ≡ duty_limits duty)
   pub stay : RidersStay (duty_cuts duty.cut_above) sizes olds riders
   pub images : AllByRecursion FlushesNone olds → AllByRecursion (FlushesTaken Took sizes) riders
+
+-- a crew did all its work by this duty, with no gate to be asked: its riders were these and are these, its page writers were
+-- of this kind, and this is its report
+pub record CrewHasWorked {L W : Type 0} (F : Type 0) (log : DomainState) (duty : Duty)
+    (has : W → ℕ → List ℕ → Type 0) (wrote failed : W → ℕ → List ℕ → W → Type 0) (failures : W → ℕ)
+    (olds riders : CrewRiders L) (report : CrewReport) : Type 0 where
+  pub given : Crew L W
+  pub olds_are : given.riders ≡ olds
+  pub crew : Crew L W
+  pub riders_are : crew.riders ≡ riders
+  pub worked : HasWorked F log (duty_limits duty) (λ page. ⊤) (WritesPage has wrote) (FailsPage has failed)
+      failures true given crew (counts_of report)
 
 -- a thread for each of so many riders, but the crew's four, has such a result, and its rider was the new one of its
 -- number; all riders came back, those of the threads in their order before the crew's. Each of these stored into cells only

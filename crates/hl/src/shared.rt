@@ -1,12 +1,13 @@
 //! The threads of a log and its crew, side by side.
-ghost use Rattle.std.specs.Prelude.{◌≡◌, ◌++◌, ◌≤◌, map, length, true, Some, is_some, Err, IsOk, IfOk, IfErr, MatchResult};
+ghost use Rattle.std.specs.Prelude.{◌≡◌, ◌++◌, ◌≤◌, map, length, true, Some, is_some, ⊤, Err, IsOk, IfOk, IfErr, IfSome, MatchResult};
 ghost use Rattle.std.specs.List.{AllByRecursion};
 ghost use Rattle.hl_model.specs.declared.fault.Fault.TheVariants.{OutOfMemory};
 ghost use Rattle.hl_words.specs.States.{new_riders};
 ghost use Rattle.hl_memory.specs.Traces.{RiderTraces};
 ghost use Rattle.hl_crew.specs.Riders.{riders_of};
-ghost use Rattle.hl.specs.Closings.{AreLeft, HasServed, HaveWorked, Tells};
-ghost use Rattle.hl.specs.Devices.{device_has};
+ghost use Rattle.hl.specs.Closings.{AreLeft, CrewHasWorked, HasServed, HaveWorked, Tells};
+ghost use Rattle.hl.specs.declared.sink.Sink.{Sink};
+ghost use Rattle.hl.specs.Devices.{device_has, has_page};
 ghost use Rattle.hl.specs.Sessions.{beside_crew};
 
 use crate::log::Log;
@@ -175,9 +176,13 @@ impl<R: Threads + Wait + Sync, P: Work<R> + Sync> Shared<'_, R, P> {
         requires duty { self.now.duty.frames ≡ log.now.sizes.frames }
         requires work { T.work ≡ Some self.now.work.now }
         requires kind { T.in_memory ≡ is_some device }
-        ensures { HasServed self.now.duty log.now.sizes (device_has (P.took self.now.work.now) result.1)
+        ensures served { HasServed self.now.duty log.now.sizes (device_has (P.took self.now.work.now) result.1)
             (riders_of riders) (riders_of result.0)
             result.2 × (is_some result.1 ≡ is_some device) }
+        ensures works { IfOk result.2 (λ report. CrewHasWorked P.Job log.now self.now.duty
+            (λ (sink : Sink R P T T.Named) page bytes. has_page
+            (λ page bytes. IfSome T.work (λ work. P.took work page bytes)) sink.memory page bytes)
+            (λ _ _ _ _. ⊤) (λ _ _ _ _. ⊤) (λ sink. sink.failures) riders result.0 report) }
     {
         let (first, second) = MemoryDevice::into_parts(device);
         let crew = Crew {

@@ -1,10 +1,11 @@
 use Rattle.std.proofs.Common.{◌≡◌, ◌∙◌, refl, rules, ap, sym, subst}
 use Rattle.std.specs.Prelude.{is_some, IfSome, Some}
+use Rattle.std.proofs.lemmas.Result.{IfOk-weaker}
 use Rattle.hl.proofs.OutLaws.{sinks_taken}
 use Rattle.hl.proofs.shared.Shared.serve_named.Goals as goal
 
-pub returns : goal.returns
-returns g c =
+pub returns-clause-served : goal.returns-clause-served
+returns-clause-served g c =
     let one = c.into_memory-first.ensures in
     let other = c.into_memory.ensures in (
       record {
@@ -21,3 +22,8 @@ returns g c =
       },
       search rules,
     )
+
+-- the crew is that whose riders these were, with a sink for each writer
+pub returns-clause-works : goal.returns-clause-works
+returns-clause-works g c =
+    IfOk-weaker c.serve-crew.result.1 _ _ (λ report worked. record { given = _; olds_are = refl; crew = c.serve-crew.result.0; riders_are = refl; worked = worked }) c.serve-crew.ensures.works
