@@ -1,4 +1,4 @@
-ghost use Rattle.std.specs.Prelude.{◌≡◌, OnOk, IfOk};
+ghost use Rattle.std.specs.Prelude.{◌≡◌, IfOk};
 ghost use Rattle.std.specs.Io.KnownBytes.{Appends};
 ghost use Rattle.hl_command_line.specs.Obeyed.{race_status, race_text, RacedAs};
 
@@ -27,19 +27,26 @@ pub(crate) fn race<T: Threads + Wait + Sync, W: Write, E: Write>(
         Ok(agrees) => tell(race, agrees, writer),
         Err(fault) => Err(fault),
     };
+    status_of(ended, errors)
+}
+
+/// Returns the status of a race that ended so.
+fn status_of<E: Write>(ended: Result<bool, Fault>, errors: &mut E) -> u8
+    ensures { result ≡ race_status ended }
+{
     match ended {
-        Ok(status) => status,
+        Ok(true) => DONE,
+        Ok(false) => FAILED,
         Err(fault) => failed(fault, errors),
     }
 }
 
-/// Writes the line of a race, so that it goes out, and returns its status.
+/// Writes the line of a race, so that it goes out, and returns whether the race agrees.
 ///
 /// Fault: `Stream` if a write failed.
-fn tell<W: Write>(race: Race, agrees: bool, writer: &mut W) -> Result<u8, Fault>
-    ensures text { OnOk result
-        (Appends (W.contents writer.old) (W.contents writer.new) (race_text race.riders race.rounds agrees)) }
-    ensures status { IfOk result (λ status. status ≡ race_status agrees) }
+fn tell<W: Write>(race: Race, agrees: bool, writer: &mut W) -> Result<bool, Fault>
+    ensures { IfOk result (λ told. (told ≡ agrees) × Appends (W.contents writer.old) (W.contents writer.new)
+        (race_text race.riders race.rounds agrees)) }
 {
     put(writer, b"race ")?;
     put(writer, Buffer::new().format(race.riders()).as_bytes())?;
@@ -47,7 +54,7 @@ fn tell<W: Write>(race: Race, agrees: bool, writer: &mut W) -> Result<u8, Fault>
     put(writer, Buffer::new().format(race.rounds()).as_bytes())?;
     put(writer, if agrees { b" ok\n" } else { b" differs\n" })?;
     match writer.flush() {
-        Ok(()) => Ok(if agrees { DONE } else { FAILED }),
+        Ok(()) => Ok(agrees),
         Err(_) => Err(Fault::Stream),
     }
 }

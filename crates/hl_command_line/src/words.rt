@@ -1,5 +1,6 @@
-ghost use Rattle.std.specs.Prelude.{◌≡◌, ◌≤◌, ◌⊎◌};
-ghost use Rattle.hl_command_line.specs.Obeyed.{Obeys};
+ghost use Rattle.std.specs.Prelude.{◌≡◌, ◌≤◌, ◌⊎◌, Bool};
+ghost use Rattle.clap.specs.Words.{kind_of};
+ghost use Rattle.hl_command_line.specs.Obeyed.{GivesNone, Obeys, words_status};
 ghost use Rattle.hl_command_line.specs.declared.wanted.Wanted.{Wanted};
 
 use crate::race::race;
@@ -41,7 +42,7 @@ pub fn command<T: Threads + Wait + Sync, S: AsStr, R: Read, W: Write, E: Write>(
     ensures status { result ≤ 2 }
     ensures told { ((wanted : Wanted) × Obeys wanted (R.remaining reader.old) (R.remaining reader.new)
         (W.contents writer.old) (W.contents writer.new) result)
-        ⊎ (R.remaining reader.new ≡ R.remaining reader.old) }
+        ⊎ GivesNone (R.remaining reader.old) (R.remaining reader.new) result }
 {
     match read_words(alloc, words) {
         Ok(wanted) => obey(rt, alloc, wanted, reader, writer, errors),
@@ -179,18 +180,33 @@ fn race_words<'a>(alloc: Global) -> Result<Command<'a>, AllocError> {
         .args(vec![in alloc; riders, rounds, cut, wide]?)
 }
 
-/// Tells the user why the words gave no command: help was wanted, or they were refused.
+/// Tells the user why the words gave no command: help was wanted, or they were refused. Returns the exit status.
 fn answer<W: Write, E: Write>(error: &Error, writer: &mut W, errors: &mut E) -> u8
-    ensures { result ≤ 2 }
+    ensures { (is_out : Bool) × (result ≡ words_status (kind_of error.now) is_out) }
 {
+    let is_out = show(error, writer, errors);
+    status_of(error.kind(), is_out, errors)
+}
+
+/// Writes the help that was wanted, or on the errors why the words are refused. Returns whether that went out.
+fn show<W: Write, E: Write>(error: &Error, writer: &mut W, errors: &mut E) -> bool {
     if error.kind() == ErrorKind::OutOfMemory {
-        failed(Fault::OutOfMemory, errors)
+        false
     } else if error.use_stderr() {
-        let _ = write!(errors, "{error}");
-        REFUSED
-    } else if write!(writer, "{error}").is_err() || writer.flush().is_err() {
-        failed(Fault::Stream, errors)
+        write!(errors, "{error}").is_ok()
     } else {
-        DONE
+        write!(writer, "{error}").is_ok() && writer.flush().is_ok()
+    }
+}
+
+/// Returns the status of words that give no command, which was told or not.
+fn status_of<E: Write>(kind: ErrorKind, is_out: bool, errors: &mut E) -> u8
+    ensures { result ≡ words_status kind is_out }
+{
+    match kind {
+        ErrorKind::OutOfMemory => failed(Fault::OutOfMemory, errors),
+        ErrorKind::DisplayHelp | ErrorKind::DisplayVersion if is_out => DONE,
+        ErrorKind::DisplayHelp | ErrorKind::DisplayVersion => failed(Fault::Stream, errors),
+        _ => REFUSED,
     }
 }

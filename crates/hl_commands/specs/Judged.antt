@@ -1,5 +1,6 @@
 -- What is told of a trace.
-use Rattle.std.specs.Prelude.{ℕ, List, ◌++◌, codes, decimal}
+use Rattle.std.specs.Prelude.{ℕ, Result, Ok, Err, List, ◌++◌, codes, decimal}
+use Rattle.hl_model.specs.declared.fault.Fault.{Fault}
 use Rattle.hl_judge.specs.declared.verdict.Verdict.{Verdict}
 use Rattle.hl_judge.specs.declared.verdict.Verdict.TheVariants.{Agrees, Deviates, NoEntry}
 
@@ -11,8 +12,10 @@ verdict_text (Deviates d) =
     ++ codes "\nthe definitions answer: " ++ d.answer.items ++ codes "\n"
 verdict_text (NoEntry line) = codes "line " ++ decimal line ++ codes ": no line of a trace\n"
 
--- the exit status of what a trace shows
-abbrev pub verdict_status : Verdict → ℕ
-verdict_status (Agrees lines) = 0
-verdict_status (Deviates d) = 1
-verdict_status (NoEntry line) = 2
+-- the exit status of a judge that came to this: 0 if all lines agree, 2 at one that is none of a trace; and 1 at one that
+-- deviates, and at any fault
+abbrev pub judged_status : Result Verdict Fault → ℕ
+judged_status (Ok (Agrees lines)) = 0
+judged_status (Ok (Deviates d)) = 1
+judged_status (Ok (NoEntry line)) = 2
+judged_status (Err fault) = 1

@@ -1,13 +1,11 @@
-ghost use Rattle.std.specs.Prelude.{◌≡◌, ℕ, ◌<◌, ◌≤◌, false, Ok, Err};
-ghost use Rattle.std.specs.Io.KnownBytes.{Keeps};
-ghost use Rattle.hl_model.specs.declared.fault.Fault.TheVariants.{BadLine};
+ghost use Rattle.std.specs.Prelude.{ℕ, ◌<◌, ◌≤◌, false};
 ghost use Rattle.hl_commands.specs.Commands.{Answered, EndsText, ReportedAs, EndsReport};
 ghost use Rattle.hl_commands.specs.Jobs.{MakesSums};
 
 use crate::images::write_images;
 use crate::jobs::{TAGS, adds_ticket, all_jobs};
 use crate::reports::report_script;
-use crate::status::{DONE, Flushed, REFUSED, failed};
+use crate::status::{Sent, status_of};
 use hl_action::Task;
 use hl_counts::CountTable;
 use hl_epoch::{Epochs, ScanTable};
@@ -17,9 +15,9 @@ use std::alloc::Global;
 use std::io::{Read, Write};
 
 /// Answers the script that the reader gives; then, if that is wanted, writes the image of each page that can
-/// be flushed, one a line. Returns the exit status: `DONE` only after the text of the whole script, which is what its
-/// definition says, with the images of all these pages behind it if they are wanted; and `REFUSED` only at a line that
-/// is no step.
+/// be flushed, one a line. Returns the exit status, which is that of what the run came to: `DONE` after the text of the
+/// whole script, which is what its definition says, with the images of all these pages behind it if they are wanted;
+/// `REFUSED` at a line that is no step; `FAILED` at a fault, or if what was written didn't go out.
 pub fn run<R: Read, W: Write, E: Write>(
     alloc: Global,
     flush: bool,
@@ -32,7 +30,7 @@ pub fn run<R: Read, W: Write, E: Write>(
         (W.contents writer.old) (W.contents writer.new) result }
 {
     let ended = serve::<CountTable, _, _, R, W>(alloc, flush, reader, writer, adds_ticket!());
-    status_of(ended, writer, errors)
+    status_of(ended, Sent::of(writer), errors)
 }
 
 /// The same over a table of epochs that scans its slots: a second table, by which tests answer scripts.
@@ -48,7 +46,7 @@ pub fn scan<R: Read, W: Write, E: Write>(
         (W.contents writer.old) (W.contents writer.new) result }
 {
     let ended = serve::<ScanTable, _, _, R, W>(alloc, flush, reader, writer, adds_ticket!());
-    status_of(ended, writer, errors)
+    status_of(ended, Sent::of(writer), errors)
 }
 
 /// Answers the script that the reader gives in the slow form. Returns the exit status.
@@ -63,7 +61,7 @@ pub fn slow<R: Read, W: Write, E: Write>(
         (W.contents writer.old) (W.contents writer.new) result }
 {
     let ended = serve_slowly(alloc, reader, writer);
-    status_of(ended, writer, errors)
+    status_of(ended, Sent::of(writer), errors)
 }
 
 /// Runs the script that the reader gives, without its answers, and then writes the report of what it left and
@@ -80,23 +78,7 @@ pub fn report<R: Read, W: Write, E: Write>(
         (W.contents writer.old) (W.contents writer.new) result }
 {
     let ended = tell(alloc, reader, writer, adds_ticket!());
-    status_of(ended, writer, errors)
-}
-
-/// Returns the status of a script that ended so. What was written goes out first.
-fn status_of<W: Write, E: Write>(ended: Result<(), Fault>, writer: &mut W, errors: &mut E) -> u8
-    ensures status { result ≤ 2 }
-    ensures done { result ≡ 0 → ended ≡ Ok tt }
-    ensures refused { result ≡ 2 → (n : ℕ) × (ended ≡ Err (BadLine n)) }
-    ensures kept { Keeps (W.contents writer.old) (W.contents writer.new) }
-{
-    let flushed = Flushed::of(writer);
-    match (ended, flushed) {
-        (Ok(()), Some(_)) => DONE,
-        (Err(Fault::BadLine { .. }), Some(_)) => REFUSED,
-        (Ok(()) | Err(Fault::BadLine { .. }), None) => failed(Fault::Stream, errors),
-        (Err(fault), _) => failed(fault, errors),
-    }
+    status_of(ended, Sent::of(writer), errors)
 }
 
 /// Runs the script over a table of epochs, with the jobs that `make` makes, and flushes the pages that it left sealed if

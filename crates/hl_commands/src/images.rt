@@ -1,6 +1,6 @@
-ghost use Rattle.std.specs.Prelude.{◌≡◌, ◌≢◌, ℕ, List, ◌∷◌, length, Err, IfOk, IfErr, OnOk, option_map};
+ghost use Rattle.std.specs.Prelude.{◌≡◌, ◌⊎◌, List, ◌∷◌, length, IfOk, IfErr, OnOk, option_map};
 ghost use Rattle.std.specs.Io.KnownBytes.{Appends};
-ghost use Rattle.hl_model.specs.declared.fault.Fault.TheVariants.{BadLine, OutOfMemory};
+ghost use Rattle.hl_model.specs.declared.fault.Fault.TheVariants.{Device, OutOfMemory};
 ghost use Rattle.hl_model.specs.declared.step.Step.{Step as STEP};
 ghost use Rattle.hl_cells.specs.Engines.{EngineStands};
 ghost use Rattle.hl_flush.specs.Unflushed.{image_lines};
@@ -47,7 +47,7 @@ pub(crate) fn write_images<E: Epochs + Drop, F: Task, W: Write>(
 ) -> Result<(), Fault>
     ensures images { (A : List STEP) → EngineStands engine A → OnOk result
         (Appends (W.contents writer.old) (W.contents writer.new) (image_lines engine.core.sizes A)) }
-    ensures no_bad_line { (n : ℕ) → result ≢ Err (BadLine n) }
+    ensures faults { IfErr result (λ fault. (fault ≡ OutOfMemory) ⊎ (fault ≡ Device)) }
 {
     let mut pages = HexWriter::new(Lent { writer });
     let ended = flush_pages(alloc, engine, &mut pages);
@@ -66,7 +66,7 @@ fn flush_pages<E: Epochs + Drop, F: Task, W: Write>(
     ensures images { (A : List STEP) → EngineStands engine A → OnOk result
         (Appends (W.contents pages.old.writer) (W.contents pages.new.writer)
         (image_lines engine.core.sizes A)) }
-    ensures no_bad_line { (n : ℕ) → result ≢ Err (BadLine n) }
+    ensures faults { IfErr result (λ fault. (fault ≡ OutOfMemory) ⊎ (fault ≡ Device)) }
 {
     let mut engine = engine;
     let params = engine.params();
@@ -77,7 +77,7 @@ fn flush_pages<E: Epochs + Drop, F: Task, W: Write>(
         match flush_one(&mut engine, pages, &mut image) {
             Ok(_) => {}
             Err(Fault::NoneSealed) => return Ok(()),
-            Err(fault) => return Err(fault),
+            Err(_) => return Err(Fault::Device),
         }
     }
     Ok(())

@@ -1,8 +1,9 @@
-ghost use Rattle.std.specs.Prelude.{◌≡◌, ℕ, ◌^◌, Err, OnOk, Some, None};
+ghost use Rattle.std.specs.Prelude.{◌≡◌, ℕ, ◌^◌, false, Err, IfErr, OnOk, Some, None};
 ghost use Rattle.std.specs.Io.KnownBytes.{Appends};
 ghost use Rattle.hl_model.specs.declared.fault.Fault.TheVariants.{BadLine};
 ghost use Rattle.hl_script.specs.Text.{tags_on, bad_text};
 ghost use Rattle.hl_script.specs.Outcomes.{ReadToEnd, StoppedAtBadLine};
+ghost use Rattle.hl_commands.specs.Commands.{EndsScript};
 ghost use Rattle.hl_commands.specs.Reported.{Reports};
 
 use hl_action::{Shelf, Task};
@@ -33,6 +34,7 @@ pub(crate) fn report_script<E: Epochs + Drop, F: Task, R: Read, W: Write>(
         (R.remaining reader.new) None None n }
     ensures told { (n : ℕ) → result ≡ Err (BadLine n)
         → Appends (W.contents writer.old) (W.contents writer.new) (bad_text (Some n)) }
+    ensures faults { IfErr result (EndsScript false) }
 {
     let ended: Result<Option<Finished<E, F>>, Fault> = run_text(
         alloc,

@@ -1,5 +1,6 @@
 ghost use Rattle.std.specs.Prelude.{◌≡◌};
 ghost use Rattle.std.specs.Io.KnownBytes.{Keeps};
+ghost use Rattle.hl_commands.specs.Commands.{script_status};
 
 use hl_line::print_fault;
 use hl_model::Fault;
@@ -23,20 +24,31 @@ pub fn failed<E: Write>(fault: Fault, errors: &mut E) -> u8
     FAILED
 }
 
-/// That what was written to a stream went out. Only [`Flushed::of`] makes one.
-#[derive(Drop)]
-pub(crate) struct Flushed {
-    _made: (),
+/// Returns the status of a script that ended so, after what was written went out or not.
+pub(crate) fn status_of<E: Write>(ended: Result<(), Fault>, sent: Sent, errors: &mut E) -> u8
+    ensures { result ≡ script_status ended sent.is_out }
+{
+    match (ended, sent.is_out) {
+        (Ok(()), true) => DONE,
+        (Err(Fault::BadLine { .. }), true) => REFUSED,
+        (Ok(()) | Err(Fault::BadLine { .. }), false) => failed(Fault::Stream, errors),
+        (Err(fault), _) => failed(fault, errors),
+    }
 }
 
-impl Flushed {
-    /// Flushes the stream. `None` if that failed.
-    pub(crate) fn of<W: Write>(writer: &mut W) -> Option<Flushed>
+/// Whether what was written to a stream went out. Only [`Sent::of`] makes one.
+#[derive(Drop)]
+pub(crate) struct Sent {
+    is_out: bool,
+}
+
+impl Sent {
+    /// Flushes the stream, and tells whether that went well.
+    pub(crate) fn of<W: Write>(writer: &mut W) -> Sent
         ensures kept { Keeps (W.contents writer.old) (W.contents writer.new) }
     {
-        match writer.flush() {
-            Ok(()) => Some(Flushed { _made: () }),
-            Err(_) => None,
+        Sent {
+            is_out: writer.flush().is_ok(),
         }
     }
 }

@@ -2,5 +2,4 @@ use Rattle.hl_commands.proofs.StatusLaws.{reported_as}
 use Rattle.hl_commands.proofs.commands.report.Goals as goal
 
 pub returns-clause-reported : goal.returns-clause-reported
-returns-clause-reported g c =
-    reported_as _ _ _ _ _ _ _ c.tell-ended.ensures c.status_of.ensures.kept c.status_of.ensures.done c.status_of.ensures.refused
+returns-clause-reported g c = reported_as _ _ _ _ _ _ _ _ c.tell-ended.ensures c.of.ensures.kept c.status_of.ensures

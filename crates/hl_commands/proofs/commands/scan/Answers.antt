@@ -2,5 +2,4 @@ use Rattle.hl_commands.proofs.StatusLaws.{answered}
 use Rattle.hl_commands.proofs.commands.scan.Goals as goal
 
 pub returns-clause-answered : goal.returns-clause-answered
-returns-clause-answered g c =
-    answered _ _ _ _ _ _ _ _ c.serve-ended.ensures c.status_of.ensures.kept c.status_of.ensures.done c.status_of.ensures.refused
+returns-clause-answered g c = answered _ _ _ _ _ _ _ _ _ c.serve-ended.ensures c.of.ensures.kept c.status_of.ensures

@@ -4,7 +4,7 @@ use Rattle.std.proofs.lemmas.Result.{err_from_is_err_and}
 use Rattle.hl_script.specs.Answers.{accepted}
 use Rattle.hl_script.specs.Lines.{script}
 use Rattle.hl_script.specs.Text.{tags_on}
-use Rattle.hl_commands.proofs.StatusLaws.{lacked_text, text_stopped, text_alone, text_read, no_pages, no_images, its_images}
+use Rattle.hl_commands.proofs.StatusLaws.{lacked_text, text_stopped, text_alone, text_read, wanted_faults, no_pages, no_images, its_images}
 use Rattle.hl_commands.proofs.commands.serve.Goals as goal
 
 pub returns-in_err-shelf : goal.returns-in_err-shelf
@@ -29,7 +29,7 @@ returns-then-flush g c =
     let left = rw c.in-Some.is at ran.3.1 in
     let A = accepted (tags_on c.in_ok-shelf.shelf) (script ran.0) in
     text_read _ _ _ _ _ _ _ ran.0 _ _ c.in_ok-shelf.ensures.tags ran.1 ran.2 (c.write_images.ensures.images A left.standing)
-    (its_images _ _ ran.0 _ c.if-flush.true left.sizes) c.write_images.ensures.no_bad_line
+    (its_images _ _ ran.0 _ c.if-flush.true left.sizes) (wanted_faults _ _ c.if-flush.true c.write_images.ensures.faults)
 
 pub returns-else-flush : goal.returns-else-flush
 returns-else-flush g c =

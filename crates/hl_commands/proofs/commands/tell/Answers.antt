@@ -10,4 +10,4 @@ returns-in_err-shelf g c =
     lacked_report _ _ _ _ c.in_err-shelf.field-0.0 _ c.in_err-shelf.ensures.memory (p.1 ∙ ap Err p.2)
 
 pub returns : goal.returns
-returns g c = report_ended _ _ _ _ _ _ c.in_ok-shelf.ensures.tags c.report_script.ensures.ok c.report_script.ensures.bad_line c.report_script.ensures.told
+returns g c = report_ended _ _ _ _ _ _ c.in_ok-shelf.ensures.tags c.report_script.ensures.ok c.report_script.ensures.bad_line c.report_script.ensures.told c.report_script.ensures.faults

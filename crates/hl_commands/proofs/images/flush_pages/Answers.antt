@@ -4,7 +4,6 @@ use Rattle.std.proofs.lemmas.Grind.{common_steps}
 use Rattle.hl_model.specs.Sizes.{Sizes}
 use Rattle.hl_flush.specs.Unflushed.{image_lines}
 use Rattle.hl_commands.proofs.ImageLaws.{flushing_start, flushing_next, flushing_none, flushing_spent}
-use Rattle.hl_commands.proofs.StatusLaws.{no_bad_flush}
 use Rattle.hl_commands.proofs.images.flush_pages.Goals as goal
 
 pub loop-turn-init : goal.loop-turn-init
@@ -16,9 +15,6 @@ returns-in-Err-NoneSealed-clause-images g c A stands =
     let e = rw c.in-Err-NoneSealed.field-0-is at c.in-Err-NoneSealed.ensures in
     subst (λ w. Appends (g.W.Write.contents c.args.pages.now.writer) (g.W.Write.contents w.writer) (image_lines c.args.engine.core.sizes A)) (sym (e.unchanged refl).1)
     (flushing_none _ _ _ _ _ _ so_far (e.flushes so_far.steps so_far.standing))
-
-pub returns-in-Err : goal.returns-in-Err
-returns-in-Err g c = record { images = λ A stands. tt; no_bad_line = λ n bad. no_bad_flush c.in-Err.fault n c.in-Err.ensures.faults cc }
 
 pub loop-turn-preserved : goal.loop-turn-preserved
 loop-turn-preserved g c = (
