@@ -1,13 +1,18 @@
 -- What the calls of a rider or of a pass met under the lock and left there: as a domain says it, and as its sessions do.
-use Rattle.std.specs.Prelude.{◌≡◌, ℕ, ◌+◌, Bool, Result, IfOk, OnErr, List, [], ◌∷◌, ◌++◌, length}
+use Rattle.std.specs.Prelude.{◌≡◌, ℕ, ◌+◌, ◌%◌, Bool, Option, Result, IfOk, OnErr, List, [], ◌∷◌, ◌++◌, length, take}
 use Rattle.hl_model.specs.declared.fault.Fault.{Fault}
+use Rattle.hl_model.specs.declared.frame.FrameState.{FrameState}
+use Rattle.hl_model.specs.declared.snapshot.Snapshot.{Snapshot}
 use Rattle.hl_model.specs.declared.step.Step.{Step}
 use Rattle.hl_model.specs.declared.step.Step.TheVariants.{Allocate, Bare, Take}
 use Rattle.hl_model.specs.Actions.{bumps}
+use Rattle.hl_model.specs.Frames.{frame_of}
 use Rattle.hl_model.specs.Offsets.{place_of, tail}
+use Rattle.hl_model.specs.Snapshots.{snapshot_of}
 use Rattle.hl_action.specs.Jobs.{KeptRecord, ReadyRecord}
 use Rattle.hl_drain.specs.declared.action.Ask.{Ask}
-use Rattle.hl_core.specs.Holding.{is_over}
+use Rattle.hl_core.specs.declared.holders.Holder.{Holder}
+use Rattle.hl_core.specs.Holding.{is_over, oldest, holders}
 use Rattle.hl_core.specs.Steps.{asking, stored, CameOut}
 use Rattle.hl_words.specs.States.{RiderState}
 use Rattle.hl_keeper.specs.Calls.{call_fault, Makes, MakesTouched, Stays}
@@ -59,6 +64,27 @@ module _ (F : Type 0) (domain : DomainState) where
   LooksAtOver ticket over old new =
       LeavesUnderLock F domain (no_step old new) (λ before after. (after ≡ before)
       × ((A : List Step) → KeeperStands before A → over ≡ is_over ticket A))
+
+  -- it was told all quantities of the list that its call met, how many steps of that are kept, and how many were cut
+  abbrev pub LooksAtAll : Snapshot × ℕ × ℕ → RiderState → RiderState → Type 0
+  LooksAtAll told old new =
+      LeavesUnderLock F domain (no_step old new) (λ before after. (after ≡ before)
+      × ((A : List Step) → KeeperStands before A → told.0 ≡ snapshot_of before.core.sizes A)
+      × (told.1 ≡ length before.journal) × (told.2 ≡ before.cut))
+
+  -- it was told the oldest ticket that is pending in the list that its call met, and the first n slots that hold it up
+  abbrev pub LooksAtHolders : ℕ → Option ℕ → List Holder → RiderState → RiderState → Type 0
+  LooksAtHolders n ticket holding old new =
+      LeavesUnderLock F domain (no_step old new) (λ before after. (after ≡ before)
+      × ((A : List Step) → KeeperStands before A
+      → (ticket ≡ oldest A) × (holding ≡ take n (holders before.core.sizes.slots A))))
+
+  -- it was told what a page's frame is at in the list that its call met
+  abbrev pub LooksAtFrame : ℕ → FrameState × Option ℕ → RiderState → RiderState → Type 0
+  LooksAtFrame page told old new =
+      LeavesUnderLock F domain (no_step old new) (λ before after. (after ≡ before)
+      × ((A : List Step) → KeeperStands before A
+      → let sizes = before.core.sizes in told ≡ frame_of sizes (page % sizes.frames) A))
 
   -- a pass asked for n words, and was answered so; this is its rider then
   abbrev pub Allocates : ℕ → Result ℕ Fault → PassRecord → RiderState → Type 0

@@ -26,7 +26,7 @@
 //! the calls of one rider follow each other there, and each of its steps was entered by exactly one call. So the
 //! answers to all locked calls of all threads' riders and passes are those of one list of steps, the one that is
 //! there at the end. `snapshot`, `holders` and `frame_of` take no rider and note nothing: each is answered at some
-//! list.
+//! list. By a rider (`snapshot_by`, `holders_by`, `frame_of_by`) its newest call tells which.
 //!
 //! `look`, `store`, `load`, `region`, `fetch_add`, `compare_exchange`, `copy_page` and `sweep` take no lock, and
 //! their clauses are exact in the pass, the broom and the rider; `keep_up` takes the lock only if anything is new, or

@@ -1,16 +1,14 @@
-//! The locked calls of a rider: bumps, takes and dones, the two offsets, the cut, and the snapshot.
-ghost use Rattle.std.specs.Prelude.{◌≡◌, ◌%◌, List, [], ◌∷◌, ◌++◌, length, take, IfOk, IfErr};
-ghost use Rattle.hl_model.specs.declared.step.Step.{Step as STEP};
+//! The locked calls of a rider: bumps, takes and dones, the two offsets, the cut, and what it asks of the list.
+ghost use Rattle.std.specs.Prelude.{◌≡◌, ◌%◌, [], ◌∷◌, ◌++◌, length, take, IfOk, IfErr};
 ghost use Rattle.hl_model.specs.declared.step.Step.TheVariants.{Done as DONE, Raise as RAISE, Shift as SHIFT};
 ghost use Rattle.hl_model.specs.Offsets.{read_only, head};
 ghost use Rattle.hl_model.specs.Replies.{answer_of};
 ghost use Rattle.hl_model.specs.Snapshots.{snapshot_of};
 ghost use Rattle.hl_model.specs.Frames.{frame_of};
 ghost use Rattle.hl_core.specs.Holding.{oldest, holders};
-ghost use Rattle.hl_keeper.specs.Keepers.{KeeperStands};
 ghost use Rattle.hl_keeper.specs.Calls.{without_back, Makes, Ends};
-ghost use Rattle.hl_domain.specs.Domains.{call_of, no_step, UnderLock, LeavesUnderLock, MakesUnderLock};
-ghost use Rattle.hl_domain.specs.Riders.{Bares, Bumps, Cuts, LooksAtOver, LooksAtSteps, Takes};
+ghost use Rattle.hl_domain.specs.Domains.{call_of, UnderLock, MakesUnderLock};
+ghost use Rattle.hl_domain.specs.Riders.{Bares, Bumps, Cuts, LooksAtAll, LooksAtFrame, LooksAtHolders, LooksAtOver, LooksAtSteps, Takes};
 
 use crate::domain::Domain;
 use crate::domain::held::Held;
@@ -108,11 +106,33 @@ impl<E: Epochs + Drop, F: Task, P: Promise, L: Realm> Domain<E, F, P, L> {
 
     /// What `snapshot` returns, by a rider: its newest call then tells of which list that is.
     pub fn snapshot_by(&self, rt: &impl Wait, rider: &mut Rider<L>) -> (Snapshot, u64, u64)
-        ensures met { LeavesUnderLock F self.now (no_step rider.old rider.new) (λ old new. (new ≡ old)
-            × ((A : List STEP) → KeeperStands old A → result.0 ≡ snapshot_of old.core.sizes A)
-            × (result.1 ≡ length old.journal) × (result.2 ≡ old.cut)) }
+        ensures met { LooksAtAll F self.now result rider.old rider.new }
     {
         asked!(self, rt, rider, snapshot())
+    }
+
+    /// What `holders` returns, by a rider.
+    pub fn holders_by<const N: usize>(
+        &self,
+        rt: &impl Wait,
+        rider: &mut Rider<L>,
+        row: &mut ArrayVec<Holder, N>,
+    ) -> Option<u64>
+        ensures met { LooksAtHolders F self.now N result row.new.items rider.old rider.new }
+    {
+        asked!(self, rt, rider, holders(row))
+    }
+
+    /// What `frame_of` returns, by a rider.
+    pub fn frame_of_by(
+        &self,
+        rt: &impl Wait,
+        rider: &mut Rider<L>,
+        page: u64,
+    ) -> (FrameState, Option<u64>)
+        ensures met { LooksAtFrame F self.now page result rider.old rider.new }
+    {
+        asked!(self, rt, rider, frame_of(page))
     }
 
     /// How many steps the one list has, by a rider: its newest call met exactly them.
