@@ -1,13 +1,13 @@
 -- Operations that are tried again.
 use Rattle.std.proofs.Common.{◌≡◌, ◌≤◌, ℕ, Ok, Err, inr}
-use Rattle.std.specs.Prelude.{◌⊎◌, Bool, Option, None, Result, IfErr}
-use Rattle.hl_model.specs.declared.fault.Fault.{Fault}
+use Rattle.std.specs.Prelude.{◌⊎◌, Option, None, Result, IfErr}
 use Rattle.hl_crew.specs.Goes.{Followed}
 use Rattle.hl.specs.declared.session.tries.Cure.{Cure}
+use Rattle.hl.specs.declared.session.tries.Helped.{Helped}
 use Rattle.hl.specs.Attempts.{Attempts, TriesNext}
 
 module _ {O S T X : Type 0} (Tries : O → S → Result T X → O → S → Type 0)
-    (Cures : X → Option Cure → Type 0) (Helps : S → Cure → Result Bool Fault → S → Type 0) where
+    (Cures : X → Option Cure → Type 0) (Helps : S → Cure → Helped → S → Type 0) where
   -- whatever an answer is, all tries were made
   pub if_all : (r : Result T X) {n again : ℕ} → n ≡ again → IfErr r (λ error. Cures error None ⊎ (n ≡ again))
   if_all (Ok out) all = tt

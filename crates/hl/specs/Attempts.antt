@@ -1,12 +1,13 @@
 -- An operation of a session that is tried again while there is a cure for what it was refused for.
-use Rattle.std.specs.Prelude.{◌≡◌, ◌⊎◌, ℕ, ◌≤◌, Bool, IfErr, Option, Some, None, Result, Err}
+use Rattle.std.specs.Prelude.{◌≡◌, ◌⊎◌, ℕ, ◌≤◌, Bool, false, is_some, IfErr, Option, Some, None, Result, Err}
 use Rattle.hl_model.specs.declared.fault.Fault.{Fault}
 use Rattle.hl_model.specs.declared.fault.Fault.TheVariants.{Busy, Beyond, DrainFull, JournalFull, TouchesFull, WindowFull}
 use Rattle.hl_action.specs.Firings.{FiringRecord}
 use Rattle.hl_crew.specs.Goes.{Followed}
 use Rattle.hl.specs.declared.session.tries.Cure.{Cure}
 use Rattle.hl.specs.declared.session.tries.Cure.TheVariants.{Refresh, Others}
-use Rattle.hl.specs.Helps.{Helps}
+use Rattle.hl.specs.declared.session.tries.Helped.{Helped}
+use Rattle.hl.specs.Helps.{in_vain, Helps}
 use Rattle.hl.specs.Sessions.{SessionState}
 use Rattle.hl.specs.Traces.{OnlyMeets}
 
@@ -21,7 +22,7 @@ cure_of WindowFull = Some Others
 cure_of _ = None
 
 module _ {O S T X : Type 0} (Tries : O → S → Result T X → O → S → Type 0)
-    (Cures : X → Option Cure → Type 0) (Helps : S → Cure → Result Bool Fault → S → Type 0) where
+    (Cures : X → Option Cure → Type 0) (Helps : S → Cure → Helped → S → Type 0) where
   -- a try was refused for a reason that has a cure, and a round of help for that cure came after it, however that was
   -- answered
   pub record TriesInVain (o : O) (old : S) (p : O) (new : S) : Type 0 where
@@ -30,7 +31,7 @@ module _ {O S T X : Type 0} (Tries : O → S → Result T X → O → S → Type
     pub curable : Cures error (Some cure)
     pub refused : S
     pub tries : Tries o old (Err error) p refused
-    pub help : Result Bool Fault
+    pub help : Helped
     pub helps : Helps refused cure help new
 
   -- the same of an operation and its session together: another try follows
@@ -49,9 +50,16 @@ module _ {O S T X : Type 0} (Tries : O → S → Result T X → O → S → Type
     pub answer : Tries operation last result left new
     pub all_tried : IfErr result (λ error. Cures error None ⊎ (vain ≡ again))
 
--- a round of help of a session, which stays one of its log, beside whom it was, and only met
+-- whether a nap follows a round of help for this cure, which was answered so
+abbrev pub is_nap_due : Cure → Result Bool Fault → Bool
+is_nap_due Refresh answer = false
+is_nap_due Others answer = in_vain answer
+
+-- a round of help of a session for a cure, with a nap behind it where others have to act and it was in vain; the session
+-- stays one of its log, beside whom it was, and only met
 abbrev pub SessionHelps : {F : Type 0} → (F → FiringRecord → ℕ → Type 0) → (ℕ → FiringRecord → ℕ → Type 0)
-    → SessionState → Cure → Result Bool Fault → SessionState → Type 0
-SessionHelps {F} gives keeps old _ help new =
-    Helps F old.log old.beside.cuts gives keeps help old.pass new.pass
+    → SessionState → Cure → Helped → SessionState → Type 0
+SessionHelps {F} gives keeps old cure help new =
+    (Helps F old.log old.beside.cuts gives keeps help.answer old.pass new.pass
+    × (is_some help.napped ≡ is_nap_due cure help.answer))
     × (new.log ≡ old.log) × (new.beside ≡ old.beside) × OnlyMeets old new

@@ -10,7 +10,9 @@ use Rattle.hl_core.specs.declared.holders.Holder.{Holder}
 use Rattle.hl_core.specs.Holding.{oldest, holders}
 use Rattle.hl_line.specs.Streams.{BreaksOff}
 use Rattle.hl_monitor.specs.Reports.{line_of, report_text}
+use Rattle.hl_words.specs.States.{RiderState}
 use Rattle.hl_domain.specs.Domains.{DomainState, UnderLock}
+use Rattle.hl_domain.specs.Riders.{LooksAtAll, LooksAtHolders}
 
 -- the lines of a slot that holds an action up: its number, and its epoch
 abbrev pub holder_text : Holder → List ℕ
@@ -44,3 +46,21 @@ abbrev pub Reports : (F : Type 0) → DomainState → Result (Unit {0}) Fault �
     → Option (List ℕ) → Type 0
 Reports F log result old new = (text : List ℕ) × IsReport F log text
     × MatchResult result (λ _. Appends old new text) (λ fault. (fault ≡ Stream) × BreaksOff old new text)
+
+-- the same by a rider's two calls: the first was told all quantities of the list that it met, the second who held up the
+-- oldest action of the list that it met
+pub record IsReportBy (F : Type 0) (log : DomainState) (old new : RiderState) (text : List ℕ) : Type 0 where
+  pub told : Snapshot × ℕ × ℕ
+  pub mid : RiderState
+  pub met : LooksAtAll F log told old mid
+  pub ticket : Option ℕ
+  pub holding : List Holder
+  pub held : LooksAtHolders F log 64 ticket holding mid new
+  pub text_is : text ≡ report_text told.0 told.1 told.2 ++ oldest_text ticket holding
+
+-- such a report was written, or a beginning of one
+abbrev pub ReportsBy : (F : Type 0) → DomainState → Result (Unit {0}) Fault → RiderState → RiderState
+    → Option (List ℕ) → Option (List ℕ) → Type 0
+ReportsBy F log result old new before after = (text : List ℕ) × IsReportBy F log old new text
+    × MatchResult result (λ _. Appends before after text)
+    (λ fault. (fault ≡ Stream) × BreaksOff before after text)

@@ -53,10 +53,11 @@ module _ (F : Type 0) (log : DomainState) (cuts : Cuts) where
     pub before : Followed EntersNext refused rider last
     pub entered : Entered F log last (Ok (by_pass log pass))
 
-  -- a pass left its slot, a call returned this, and the rider entered again; or the pass couldn't leave, and has its rider
+  -- a pass left its slot, then a call returned this, and then the rider entered again; or the pass couldn't leave, and has its
+  -- rider
   abbrev pub LeavesFor : {X : Type 0} → (X → Type 0) → Result X Fault → PassRecord → PassRecord → Type 0
   LeavesFor Gives (Ok x) old new =
-      Gives x × (left : RiderState) × Left F (by_pass log old) (Ok left) × Reenters left new
+      (left : RiderState) × Left F (by_pass log old) (Ok left) × Gives x × Reenters left new
   LeavesFor Gives (Err fault) old new =
       Left F (by_pass log old) (Err (was_refused fault (by_pass log new)))
       × (new ≡ with_rider new.rider old)

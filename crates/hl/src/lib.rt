@@ -19,7 +19,7 @@
 //! | pages written and frames freed behind the threads | a [`Crew`], by a [`Duty`], with two page writers, until its [`Stop`] is given |
 //! | to know why a call was refused, and what it was handed | [`Fault`], [`Refused`] |
 //! | jobs that run once all threads have moved on | a [`Task`], the `Job` of your [`Work`] or [`Part`], which [`Session::bump`] stores |
-//! | to see what a log is at, and who holds it up | [`report`](fn@report) |
+//! | to see what a log is at, and who holds it up | [`Session::report`], or without a session [`report`](fn@report) |
 //! | the log's own calls (raises, shifts, pages by hand) | the methods of [`Log`], which is a [`Domain`] |
 //! | the forms for one thread, or under a lock of your own | `hl_cells`, `hl_core`: they aren't re-exported here |
 //!
@@ -104,7 +104,7 @@ pub use opening::Opening;
 pub use part::Part;
 pub use refused::Refused;
 pub use reports::report;
-pub use session::{Curable, Cure, Helping, Resting, Session, attempt};
+pub use session::{Away, Curable, Cure, Helped, Helping, Napped, Resting, Session, attempt};
 pub use shared::Outs;
 pub use threads::with_threads;
 pub use work::Work;

@@ -9,6 +9,7 @@ ghost use Rattle.hl_memory.specs.Traces.{PassTraces, RiderTraces};
 ghost use Rattle.hl.specs.Traces.{if_ok, EntersBy, KeepsUpBy, LeavesBy, Meets};
 ghost use Rattle.hl.specs.Sessions.{alone, beside_of, with_pass, Asked, Entered, Left};
 
+mod away;
 mod bell;
 mod beside;
 mod help;
@@ -16,6 +17,7 @@ mod leave;
 mod over;
 mod pasts;
 mod pause;
+mod queries;
 mod records;
 mod region;
 mod rest;
@@ -27,6 +29,7 @@ mod words;
 
 use crate::log::Log;
 use crate::refused::Refused;
+pub use away::Away;
 pub(crate) use beside::Beside;
 use hl_action::{AnyAnswer, NoJob, Promise, Task};
 use hl_counts::CountTable;
@@ -37,7 +40,7 @@ use hl_words::{Realm, Rider};
 pub use rest::Resting;
 use std::marker::Model;
 use std::sync::Wait;
-pub use tries::{Curable, Cure, Helping, attempt};
+pub use tries::{Curable, Cure, Helped, Helping, Napped, attempt};
 
 /// A protected thread: its pass, with the log and the runtime that the pass's calls need. What is
 /// of another log doesn't compile with it.
@@ -46,7 +49,7 @@ pub use tries::{Curable, Cure, Helping, attempt};
 /// [`abandon`](Session::abandon).
 pub struct Session<
     'a,
-    R: Wait,
+    R,
     L: Realm,
     F: Task = NoJob,
     P: Promise = AnyAnswer,
@@ -58,7 +61,7 @@ pub struct Session<
     beside: Beside<'a>,
 }
 
-impl<'a, R: Wait, L: Realm, F: Task, P: Promise, E: Epochs> Model for Session<'a, R, L, F, P, E> {
+impl<'a, R, L: Realm, F: Task, P: Promise, E: Epochs> Model for Session<'a, R, L, F, P, E> {
     ghost use Rattle.hl_memory.specs.Traces.{PassTraces};
     ghost use Rattle.hl.specs.Sessions.{beside_of, SessionState};
 
@@ -242,7 +245,11 @@ impl<'a, R: Wait, L: Realm, F: Task, P: Promise, E: Epochs + Drop> Session<'a, R
             }),
         }
     }
+}
 
+// What takes no lock, here as in `words`, `region`, `pasts` and `bell`: without a bound that lets a function wait, each call
+// is proved to return.
+impl<'a, R, L: Realm, F: Task, P: Promise, E: Epochs + Drop> Session<'a, R, L, F, P, E> {
     /// Ends the session without a release, and returns its rider: the slot stays protected for
     /// good, and the session's touches never enter the journal.
     pub fn abandon(self) -> Rider<L>

@@ -15,7 +15,7 @@
 //! **No record is lost** with a page that the device lets go. What was the newest of its key there was moved to the tail, and
 //! of a chain nothing else is behind it: each record lies above those behind it.
 use crate::device::{Device, PAGE_SIZE, PLACES, zeros};
-use hl::{Curable, Cure, Fault, Helping, Lease, Realm, Region, Session, attempt};
+use hl::{Curable, Cure, Fault, Helped, Helping, Lease, Realm, Region, Session, attempt};
 use std::alloc::{AllocError, Global};
 use std::sync::Wait;
 use std::sync::atomic::AtomicU64;
@@ -107,7 +107,7 @@ pub(crate) struct Seat<'a, 'b, R: Wait, L: Realm> {
 impl<'a, 'b, R: Wait, L: Realm> Helping for Seat<'a, 'b, R, L> {
     ghost helps = { λ _ _ _ _. Unit {0} };
 
-    fn help_by(&mut self, cure: Cure) -> Result<bool, Fault> {
+    fn help_by(&mut self, cure: Cure) -> Helped {
         self.session.help_by(cure)
     }
 }

@@ -213,7 +213,7 @@ impl<R: Wait> Work<R> for Rests {
 fn rests_and_refreshes<R: Wait, L: Realm>(session: &mut Session<R, L>) -> Result<u64, Fault> {
     let mut calls = 0_u64;
     for _ in 0..CALLS {
-        calls = calls.saturating_add(session.rest(|| 1)?);
+        calls = calls.saturating_add(session.rest(|_| 1)?);
     }
     for _ in 0..CALLS {
         attempt(session, 1, |session| session.refresh())?;

@@ -172,7 +172,7 @@ impl Day {
         second: &mut Session<R, L, Counting>,
     ) -> Result<bool, Fault> {
         let waits = self.hold(second)?;
-        let runs = first.rest(|| self.run_two(second))??;
+        let runs = first.rest(|_| self.run_two(second))??;
         Ok(waits && runs && self.runs() == 2 && first.slot() == 0 && first.allocate(1)? == 0)
     }
 

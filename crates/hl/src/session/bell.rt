@@ -3,7 +3,6 @@ use super::Session;
 use hl_action::{Promise, Task};
 use hl_epoch::Epochs;
 use hl_words::Realm;
-use std::sync::Wait;
 
 /// That a session has woken its crew, if it has one. Only [`Session::rung`] makes one, so a round of help can't begin
 /// without.
@@ -12,7 +11,7 @@ pub(super) struct Rung {
     _made: (),
 }
 
-impl<'a, R: Wait, L: Realm, F: Task, P: Promise, E: Epochs + Drop> Session<'a, R, L, F, P, E> {
+impl<'a, R, L: Realm, F: Task, P: Promise, E: Epochs + Drop> Session<'a, R, L, F, P, E> {
     /// Wakes the crew of [`with_threads`](crate::with_threads) if it sleeps, and takes no lock: for a thread whose
     /// allocation was `Busy`. It does nothing in a session that was entered otherwise, whose crew has a
     /// [`Stop`](hl_crew::Stop::ring) at hand.

@@ -9,9 +9,8 @@ use super::Session;
 use hl_action::{Promise, Task};
 use hl_epoch::Epochs;
 use hl_words::{Past, Realm};
-use std::sync::Wait;
 
-impl<'a, R: Wait, L: Realm, F: Task, P: Promise, E: Epochs + Drop> Session<'a, R, L, F, P, E> {
+impl<'a, R, L: Realm, F: Task, P: Promise, E: Epochs + Drop> Session<'a, R, L, F, P, E> {
     /// The past of the session: all that it did up to now, its calls among that. It takes no bytes, and can go to another
     /// thread, whose session is then told it.
     pub fn past(&mut self) -> Past<L>

@@ -1,11 +1,11 @@
 //! A session's rest: its slot is left for a time.
 ghost use Rattle.std.specs.Prelude.{◌≡◌};
-ghost use Rattle.hl_memory.specs.Traces.{PassTraces, RiderTraces};
-ghost use Rattle.hl.specs.Rests.{Reenters, Rests, RestsOf};
+ghost use Rattle.hl_memory.specs.Traces.{PassTraces};
+ghost use Rattle.hl.specs.Rests.{Rests, RestsOf};
 ghost use Rattle.hl.specs.Traces.{OnlyMeets, PassMeets};
 
 use super::Session;
-use super::tries::nap;
+use super::away::{Away, Gone};
 use crate::log::Log;
 use core::mem::replace_with;
 use hl_action::{Promise, Task};
@@ -13,7 +13,7 @@ use hl_crew::{Cuts, cut_if_due};
 use hl_domain::Pass;
 use hl_epoch::Epochs;
 use hl_model::Fault;
-use hl_words::{Realm, Rider};
+use hl_words::Realm;
 use std::sync::Wait;
 
 impl<'a, R: Wait, L: Realm, F: Task, P: Promise, E: Epochs + Drop> Session<'a, R, L, F, P, E> {
@@ -21,7 +21,7 @@ impl<'a, R: Wait, L: Realm, F: Task, P: Promise, E: Epochs + Drop> Session<'a, R
     /// `Resume`): for what takes long, as a read of the device. Meanwhile no action waits for the session, and it holds no
     /// page. What it saw of the log is gone then: what it looked up before must be looked up anew.
     ///
-    /// Returns what the closure returned. If an entry is refused, it is tried again after a short nap: so this waits for
+    /// Returns what the closure returned, which is called between the release and the entry. If an entry is refused, it is tried again after a short nap: so this waits for
     /// good if the journal stays full, or each slot protected.
     ///
     /// In [`Work::finish`](crate::Work::finish), where no crew serves any more, the journal is cut before the release
@@ -29,9 +29,9 @@ impl<'a, R: Wait, L: Realm, F: Task, P: Promise, E: Epochs + Drop> Session<'a, R
     /// nothing.
     ///
     /// `JournalFull` of the release: then the closure isn't called, and the session stays in its slot.
-    pub fn rest<X, C: FnOnce() -> X>(&mut self, idle: C) -> Result<X, Fault>
+    pub fn rest<X, C: FnOnce(&Away) -> X>(&mut self, idle: C) -> Result<X, Fault>
         requires { C.IsAlwaysCallable idle }
-        ensures rests { Rests F (C.post idle) result self.old self.new }
+        ensures rests { Rests F (λ x. (away : _) × C.post idle away x) result self.old self.new }
         ensures did { OnlyMeets self.old self.new }
         ensures log { self.new.log ≡ self.old.log }
         ensures beside { self.new.beside ≡ self.old.beside }
@@ -42,7 +42,7 @@ impl<'a, R: Wait, L: Realm, F: Task, P: Promise, E: Epochs + Drop> Session<'a, R
             idle,
             |pass: Pass<L>, idle: C| -> (Pass<L>, Result<X, Fault>)
                 requires { C.IsAlwaysCallable idle }
-                ensures { RestsOf F log.entry.now cuts (C.post idle) result.1 pass result.0
+                ensures { RestsOf F log.entry.now cuts (λ x. (away : _) × C.post idle away x) result.1 pass result.0
                     × (PassTraces log.entry.now.sizes pass → PassMeets log.entry.now pass.rider result.0) }
             { rest_of(rt, log, cuts, pass, idle) },
         )
@@ -50,7 +50,7 @@ impl<'a, R: Wait, L: Realm, F: Task, P: Promise, E: Epochs + Drop> Session<'a, R
 }
 
 // Leaves a pass's slot for the time of a closure, and enters again. The journal is cut as is due before.
-fn rest_of<R: Wait, L: Realm, F: Task, P: Promise, E: Epochs + Drop, X, C: FnOnce() -> X>(
+fn rest_of<R: Wait, L: Realm, F: Task, P: Promise, E: Epochs + Drop, X, C: FnOnce(&Away) -> X>(
     rt: &R,
     log: &Log<L, F, P, E>,
     cuts: Cuts,
@@ -58,40 +58,16 @@ fn rest_of<R: Wait, L: Realm, F: Task, P: Promise, E: Epochs + Drop, X, C: FnOnc
     idle: C,
 ) -> (Pass<L>, Result<X, Fault>)
     requires { C.IsAlwaysCallable idle }
-    ensures rests { RestsOf F log.now cuts (C.post idle) result.1 pass result.0 }
+    ensures rests { RestsOf F log.now cuts (λ x. (away : _) × C.post idle away x) result.1 pass result.0 }
     ensures did { PassTraces log.now.sizes pass → PassMeets log.now pass.rider result.0 }
 {
     let mut pass = pass;
     cut_if_due(rt, log, pass.rider_mut(), cuts);
-    match log.release(rt, pass) {
-        Ok(rider) => {
-            let answer = idle();
-            (enter_again(rt, log, cuts, rider), Ok(answer))
+    match Gone::leave(rt, log, pass) {
+        Ok(gone) => {
+            let (pass, answer) = gone.call(idle).enter(rt, log, cuts);
+            (pass, Ok(answer))
         }
         Err((fault, pass)) => (pass, Err(fault)),
     }
-}
-
-// Enters the log, by as many tries as that takes, and after each that is refused cuts the journal as is due.
-fn enter_again<R: Wait, L: Realm, F: Task, P: Promise, E: Epochs + Drop>(
-    rt: &R,
-    log: &Log<L, F, P, E>,
-    cuts: Cuts,
-    rider: Rider<L>,
-) -> Pass<L>
-    ensures again { Reenters F log.now cuts rider result }
-    ensures did { RiderTraces log.now.sizes rider → PassMeets log.now rider result }
-{
-    let mut rider = rider;
-    for _ in rt.forever() {
-        match log.enter(rt, rider) {
-            Ok(pass) => return pass,
-            Err((fault, back)) => {
-                rider = back;
-                cut_if_due(rt, log, &mut rider, cuts);
-                nap(rt, &Err(fault));
-            }
-        }
-    }
-    unreachable!()
 }

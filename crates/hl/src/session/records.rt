@@ -125,7 +125,9 @@ impl<'a, R: Wait, L: Realm, F: Task, P: Promise, E: Epochs + Drop> Session<'a, R
             Err(fault) => Err(fault),
         }
     }
+}
 
+impl<'a, R, L: Realm, F: Task, P: Promise, E: Epochs + Drop> Session<'a, R, L, F, P, E> {
     /// Loads the words from an address on, as many as there are places.
     ///
     /// Faults: `Evicted` if the address is below the head that the session saw, `Beyond` if the last of them isn't below

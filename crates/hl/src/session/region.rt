@@ -11,9 +11,8 @@ use hl_domain::Region;
 use hl_epoch::Epochs;
 use hl_model::Fault;
 use hl_words::Realm;
-use std::sync::Wait;
 
-impl<'a, R: Wait, L: Realm, F: Task, P: Promise, E: Epochs + Drop> Session<'a, R, L, F, P, E> {
+impl<'a, R, L: Realm, F: Task, P: Promise, E: Epochs + Drop> Session<'a, R, L, F, P, E> {
     /// Tells in which [`Region`] of the log an address is, without the lock, as an engine asks before it changes a
     /// record. It is by what the session saw; only the safe read-only offset is loaded anew, if the answer needs it. What
     /// is read-only is written by nobody any more, as `loads_are_settled` of `hl_domain::laws` says.

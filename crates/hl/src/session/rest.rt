@@ -20,7 +20,7 @@ use std::sync::Wait;
 /// no page. [`Session::suspend`] makes it, and [`resume`](Resting::resume) ends it.
 pub struct Resting<
     'a,
-    R: Wait,
+    R,
     L: Realm,
     F: Task = NoJob,
     P: Promise = AnyAnswer,
@@ -32,7 +32,7 @@ pub struct Resting<
     beside: Beside<'a>,
 }
 
-impl<'a, R: Wait, L: Realm, F: Task, P: Promise, E: Epochs> Model for Resting<'a, R, L, F, P, E> {
+impl<'a, R, L: Realm, F: Task, P: Promise, E: Epochs> Model for Resting<'a, R, L, F, P, E> {
     ghost use Rattle.hl_memory.specs.Traces.{RiderTraces};
     ghost use Rattle.hl.specs.Rests.{RestState};
     ghost use Rattle.hl.specs.Sessions.{beside_of};
@@ -107,7 +107,9 @@ impl<'a, R: Wait, L: Realm, F: Task, P: Promise, E: Epochs + Drop> Resting<'a, R
             }),
         }
     }
+}
 
+impl<'a, R, L: Realm, F: Task, P: Promise, E: Epochs + Drop> Resting<'a, R, L, F, P, E> {
     /// Ends the rest without a session. Returns the rider.
     pub fn into_rider(self) -> Rider<L>
         ensures rider { result ≡ self.entry.rider }

@@ -1,5 +1,5 @@
 //! Operations that are tried again.
-ghost use Rattle.std.specs.Prelude.{◌≡◌, true};
+ghost use Rattle.std.specs.Prelude.{◌≡◌, true, is_some};
 ghost use Rattle.std.specs.Fn.{CalledAtMut};
 ghost use Rattle.hl.specs.Attempts.{cure_of, Attempts, SessionHelps};
 ghost use Rattle.hl.specs.Helps.{in_vain, Helps};
@@ -57,18 +57,32 @@ impl Curable for Fault {
     }
 }
 
+/// That a thread has napped. Only a nap makes one.
+#[derive(Drop)]
+pub struct Napped {
+    _made: (),
+}
+
+/// What came between two tries.
+#[derive(Drop)]
+pub struct Helped {
+    /// Whether a round of help ran an action; or by what it was refused.
+    pub answer: Result<bool, Fault>,
+    /// A nap behind it, if there was one.
+    pub napped: Option<Napped>,
+}
+
 /// What can be helped on between two tries: a [`Session`], or what an engine keeps beside one. It is a trait since a
 /// closure's bound can name a parameter of its function, and not yet a session's type.
 pub trait Helping {
-    ghost use Rattle.std.specs.Prelude.{Bool, Result};
-    ghost use Rattle.hl_model.specs.declared.fault.Fault.{Fault};
     ghost use Rattle.hl.specs.declared.session.tries.Cure.{Cure as CURE};
+    ghost use Rattle.hl.specs.declared.session.tries.Helped.{Helped as HELPED};
 
     /// What a round of help for a cure makes.
-    ghost helps: { Self → CURE → Result Bool Fault → Self → Type 0 };
+    ghost helps: { Self → CURE → HELPED → Self → Type 0 };
 
     /// A round of help, and a short nap if others have to act and it ran no action.
-    fn help_by(&mut self, cure: Cure) -> Result<bool, Fault>
+    fn help_by(&mut self, cure: Cure) -> Helped
         ensures { helps self.old cure result self.new };
 }
 
@@ -109,11 +123,13 @@ impl<'a, R: Wait, L: Realm, F: Task, P: Promise, E: Epochs + Drop> Helping
     for Session<'a, R, L, F, P, E> {
     ghost helps = { SessionHelps F.gives P.keeps };
 
-    fn help_by(&mut self, cure: Cure) -> Result<bool, Fault> {
-        match cure {
-            Cure::Refresh => self.help(),
-            Cure::Others => self.help_or_nap(),
-        }
+    fn help_by(&mut self, cure: Cure) -> Helped {
+        let answer = self.help();
+        let napped = match cure {
+            Cure::Refresh => None,
+            Cure::Others => nap_in_vain(self.rt, &answer),
+        };
+        Helped { answer, napped }
     }
 }
 
@@ -128,9 +144,7 @@ impl<'a, R: Wait, L: Realm, F: Task, P: Promise, E: Epochs + Drop> Session<'a, R
         ensures beside { self.new.beside ≡ self.old.beside }
     {
         let helped = self.help();
-        if is_in_vain(&helped) {
-            nap(self.rt, &helped);
-        }
+        let _ = nap_in_vain(self.rt, &helped);
         helped
     }
 }
@@ -142,9 +156,21 @@ fn is_in_vain(helped: &Result<bool, Fault>) -> bool
     !matches!(helped, Ok(true))
 }
 
+// A nap after a round of help that was in vain.
+fn nap_in_vain(rt: &impl Wait, helped: &Result<bool, Fault>) -> Option<Napped>
+    ensures { is_some result ≡ in_vain helped.now }
+{
+    if is_in_vain(helped) {
+        Some(nap(rt, helped))
+    } else {
+        None
+    }
+}
+
 // A short nap, so that others go on: after what was in vain alone.
-pub(super) fn nap(rt: &impl Wait, helped: &Result<bool, Fault>)
+pub(super) fn nap(rt: &impl Wait, helped: &Result<bool, Fault>) -> Napped
     requires { in_vain helped.now ≡ true }
 {
     Parker::new().park_timeout(rt, Duration::from_micros(NAP));
+    Napped { _made: () }
 }

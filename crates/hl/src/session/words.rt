@@ -10,9 +10,8 @@ use hl_action::{Promise, Task};
 use hl_epoch::Epochs;
 use hl_model::{Fault, View};
 use hl_words::Realm;
-use std::sync::Wait;
 
-impl<'a, R: Wait, L: Realm, F: Task, P: Promise, E: Epochs + Drop> Session<'a, R, L, F, P, E> {
+impl<'a, R, L: Realm, F: Task, P: Promise, E: Epochs + Drop> Session<'a, R, L, F, P, E> {
     /// Looks at both offset words, without the lock. Returns what the session then sees.
     ///
     /// `TouchesFull` if it has 32 touches.

@@ -1,7 +1,7 @@
 use Rattle.std.proofs.Common.{suc}
 use Rattle.hl.specs.Rests.{Reenters}
 use Rattle.hl.proofs.ActLaws.{reentered}
-use Rattle.hl.proofs.session.pause.enter_again.Goals as goal
+use Rattle.hl.proofs.session.away.enter_again.Goals as goal
 
 pub returns-in-Ok : goal.returns-in-Ok
 returns-in-Ok g c =

@@ -1,7 +1,7 @@
 use Rattle.std.proofs.Common.{ℕ}
 use Rattle.hl_crew.specs.Goes.{Followed}
 use Rattle.hl.specs.Rests.{EntersNext}
-use Rattle.hl.proofs.session.pause.enter_again.Given as goal
+use Rattle.hl.proofs.session.away.enter_again.Given as goal
 
 -- some tries to enter were refused, and the journal was cut as is due after each
 abbrev pub invariant-loop : goal.invariant-loop
