@@ -11,7 +11,7 @@ use Rattle.hl_pass.specs.declared.news.News.{News}
 use Rattle.hl_words.specs.declared.view.RiderView.{RiderView}
 use Rattle.hl_words.specs.declared.which.Which.TheVariants.{ReadOnly as READ_ONLY, Head as HEAD, SafeReadOnly as SAFE}
 use Rattle.hl_words.specs.Views.{with_loaded}
-use Rattle.hl_log.specs.Loads.{loaded_news, loaded_row}
+use Rattle.hl_log.specs.Loads.{loaded_news, loaded_row, IsLaterNews}
 use Rattle.hl_log.specs.Passes.{cell_of, with_act, with_look, IsLaterLoad}
 use Rattle.hl_log.specs.Addresses.{region_fault, region_of, row_fault}
 use Rattle.hl_pass.specs.declared.region.Region.{Region}
@@ -49,10 +49,11 @@ Looks (Some p) new outcome = (loaded : ℕ × ℕ) × IsLaterLoad READ_ONLY p lo
     × (new ≡ Some (with_look loaded.0 loaded.1 p))
     × (outcome ≡ reply_outcome (Looked (raised p.own.view loaded.0 loaded.1)))
 
--- a pass loaded three words, and tells whether none of them is new to it
+-- a pass loaded three words, none below what it loaded of that word before, and tells whether none of them is new to it
 abbrev pub KeepsUp : Option PassRow.Denot → Option PassRow.Denot → ℕ → Type 0
 KeepsUp None new number = (number ≡ 255) × (new ≡ None)
-KeepsUp (Some p) new number = (news : News) × (new ≡ Some (with_act (loaded_news news) p))
+KeepsUp (Some p) new number = (news : News) × IsLaterNews news p.rider.view
+    × (new ≡ Some (with_act (loaded_news news) p))
     × (number ≡ (if is_current p.own.view p.own.epoch news then 1 else 0))
 
 -- a region as a number
@@ -68,9 +69,10 @@ region_told (Some fault) region safe_read_only = fault_outcome fault
 region_told None region safe_read_only = accepted (region_number region) safe_read_only 0 0
 
 -- a pass told the region of an address, by what it sees and the safe read-only offset that it loaded, which the outcome
--- has
+-- has, and which isn't below what it loaded of that before
 abbrev pub TellsRegion : Option PassRow.Denot → ℕ → Option PassRow.Denot → Outcome → Type 0
 TellsRegion None a new outcome = (outcome ≡ no_core) × (new ≡ None)
 TellsRegion (Some p) a new outcome =
     (new ≡ Some (unless_refused (region_fault p.own.view a) p (with_act (with_loaded SAFE outcome.b) p)))
+    × (region_fault p.own.view a ≡ None → IsLaterLoad SAFE p outcome.b)
     × (outcome ≡ region_told (region_fault p.own.view a) (region_of p.own.view outcome.b a) outcome.b)

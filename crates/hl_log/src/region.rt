@@ -3,7 +3,7 @@ ghost use Rattle.std.specs.Prelude.{◌≡◌, None, Some, MatchResult};
 ghost use Rattle.hl_words.specs.declared.which.Which.TheVariants.{SafeReadOnly};
 ghost use Rattle.hl_words.specs.Views.{with_loaded};
 ghost use Rattle.hl_log.specs.Addresses.{region_fault, region_of};
-ghost use Rattle.hl_log.specs.Passes.{with_act};
+ghost use Rattle.hl_log.specs.Passes.{with_act, IsLaterLoad};
 
 use crate::pass::Pass;
 use crate::shared::Shared;
@@ -13,7 +13,7 @@ use hl_words::Which;
 
 impl Pass {
     /// Returns the region of an address, by what the pass sees and the safe read-only offset, which it loads
-    /// and tells too.
+    /// and tells too: no less than what it loaded of that before.
     ///
     /// `Beyond` if the address isn't below the tail that the pass sees, nor below the head that it sees.
     #[inline(always)]
@@ -22,6 +22,7 @@ impl Pass {
             in let met = region_fault view address
             in MatchResult result
             (λ told. (met ≡ None) × (told.0 ≡ region_of view told.1 address)
+            × IsLaterLoad SafeReadOnly self.old told.1
             × (self.new ≡ with_act (with_loaded SafeReadOnly told.1) self.old))
             (λ fault. (met ≡ Some fault) × (self.new ≡ self.old)) }
         ensures own { self.new.own ≡ self.old.own }

@@ -1,7 +1,7 @@
 ghost use Rattle.std.specs.Prelude.{◌≡◌, ◌+◌, ◌*◌, ◌^◌, ◌<◌, ◌≤◌, length, IfSome};
 ghost use Rattle.hl_words.specs.Cells.{cell_at, first_cell};
 ghost use Rattle.hl_words.specs.Rows.{acted, first_master};
-ghost use Rattle.hl_log.specs.Loads.{loaded_news, loaded_row};
+ghost use Rattle.hl_log.specs.Loads.{loaded_news, loaded_row, IsLaterNews};
 
 use hl_model::{Sizes, cell_of};
 use hl_pass::News;
@@ -67,7 +67,8 @@ impl Shared {
     #[inline(always)]
     pub(crate) fn news(&self, rider: &mut RowRider) -> News
         requires { rider.old.table ≡ self.now.words.table }
-        ensures { rider.new ≡ acted (loaded_news result) rider.old }
+        ensures did { rider.new ≡ acted (loaded_news result) rider.old }
+        ensures later { IsLaterNews result rider.old.view }
     {
         let read_only = self.words.load_offset(rider, Which::ReadOnly);
         let head = self.words.load_offset(rider, Which::Head);

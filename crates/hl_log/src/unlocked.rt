@@ -4,7 +4,7 @@ ghost use Rattle.hl_model.specs.Replies.{unless_fault, unless_refused};
 ghost use Rattle.hl_words.specs.declared.which.Which.TheVariants.{ReadOnly as READ_ONLY, Head as HEAD};
 ghost use Rattle.hl_words.specs.Views.{stored, loaded, added, exchanged};
 ghost use Rattle.hl_log.specs.Addresses.{row_fault};
-ghost use Rattle.hl_log.specs.Loads.{loaded_news, loaded_row};
+ghost use Rattle.hl_log.specs.Loads.{loaded_news, loaded_row, IsLaterNews};
 ghost use Rattle.hl_log.specs.Passes.{cell_of, with_act, with_look, IsLaterLoad, IsRisen};
 ghost use Rattle.hl_pass.specs.Views.{store_fault, load_fault, is_current};
 
@@ -131,12 +131,14 @@ impl Pass {
         (read_only, head)
     }
 
-    /// Loads all three words; returns whether none is new to the pass, and what it loaded. If none is,
-    /// neither offset is above the one that the pass sees, and its epoch has not ended.
+    /// Loads all three words; returns whether none is new to the pass, and what it loaded, none of it below what it
+    /// loaded of that word before. If none is new, neither offset is above the one that the pass sees, and its epoch has
+    /// not ended.
     #[inline(always)]
     pub fn keeps_up(&mut self) -> (bool, News)
         ensures answer { result.0 ≡ is_current self.old.own.view self.old.own.epoch result.1 }
         ensures did { self.new ≡ with_act (loaded_news result.1) self.old }
+        ensures later { IsLaterNews result.1 self.old.rider.view }
         ensures own { self.new.own ≡ self.old.own }
     {
         let shared: &Shared = &self.shared;
