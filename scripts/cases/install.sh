@@ -180,6 +180,7 @@ if has_all "what ./hl install lays out" as ld objcopy nm ar rt; then
         check "an append-only log in C" builds_and_runs cc c11 native/examples/append_log.c "$room/c.log"
         check "a core with words of its own in C" builds_and_runs cc c11 native/examples/own_words.c "$room/words.log"
         check "what each call of a log of threads answers in C" builds_and_runs cc c11 native/tests/threads.c
+        check "a log of threads of the greatest sizes in C" builds_and_runs cc c11 native/tests/wide_log.c
         options=-Wl,--wrap=malloc,--wrap=free check "refused memory in C" builds_and_runs cc c11 native/tests/refused.c
         ! watches_threads cc || options=-fsanitize=thread check "threads in C by ThreadSanitizer" \
             builds_and_runs cc c11 native/tests/threads.c
