@@ -5,9 +5,9 @@ use Rattle.std.proofs.lemmas.Bool.{cases_eq}
 use Rattle.std.proofs.lemmas.List.{get_or-set_same, get_or-set_other}
 use Rattle.hl_model.specs.declared.fault.Fault.{Fault}
 use Rattle.hl_domain.specs.Domains.{stays_current}
-use Rattle.hl_memory.specs.declared.act.Act.{Act}
-use Rattle.hl_memory.specs.declared.act.Act.TheVariants.{Placed}
-use Rattle.hl_memory.specs.Counters.{AddsAt}
+use Rattle.hl_traces.specs.declared.act.Act.{Act}
+use Rattle.hl_traces.specs.declared.act.Act.TheVariants.{Placed}
+use Rattle.hl_traces.specs.Counters.{AddsAt}
 use Rattle.hl.specs.Sessions.{SessionState}
 use Rattle.hl.specs.Traces.{acts, if_ok, KeepsUpBy, IsFresh, Meets}
 use Rattle.example_counters.specs.Counters.{AddsEach, AddsNothing, AddsOne}

@@ -5,7 +5,7 @@ use Rattle.std.specs.List.{sum}
 use Rattle.std.proofs.Math.Nat.{mod-lt}
 use Rattle.hl_model.specs.Sizes.{Sizes}
 use Rattle.hl_action.specs.declared.no_job.NoJob.{NoJob}
-use Rattle.hl_memory.specs.OneTrace.{left_at}
+use Rattle.hl_traces.specs.OneTrace.{left_at}
 use Rattle.hl.specs.Devices.{on_memory, Differs}
 use Rattle.hl.specs.Left.{IsLeft}
 use Rattle.hl.specs.Threads.{HaveOneTrace}

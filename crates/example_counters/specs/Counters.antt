@@ -2,9 +2,9 @@
 -- the word at address c.
 use Rattle.std.specs.Prelude.{ℕ, ◌≡◌, ◌<◌, ◌+◌, ◌%◌, ◌^◌, ◌⊎◌, Bool, true, false, Some, None, List, ◌∷◌, map, Ok, slice_get, slice_index}
 use Rattle.std.specs.List.{sum}
-use Rattle.hl_memory.specs.declared.act.Act.{Act}
-use Rattle.hl_memory.specs.declared.act.Act.TheVariants.{Changed}
-use Rattle.hl_memory.specs.Counters.{AddsAt}
+use Rattle.hl_traces.specs.declared.act.Act.{Act}
+use Rattle.hl_traces.specs.declared.act.Act.TheVariants.{Changed}
+use Rattle.hl_traces.specs.Counters.{AddsAt}
 use Rattle.hl.specs.Devices.{Differs}
 use Rattle.hl.specs.Sessions.{SessionState}
 use Rattle.hl.specs.Traces.{Told}

@@ -4,10 +4,10 @@ use Rattle.std.proofs.lemmas.List.{append_assoc}
 use Rattle.std.proofs.lemmas.Option.{slice_get-map}
 use Rattle.hl_action.specs.declared.no_job.NoJob.{NoJob}
 use Rattle.hl_model.specs.Sizes.{Sizes}
-use Rattle.hl_memory.specs.declared.act.Act.{Act}
-use Rattle.hl_memory.specs.declared.act.Act.TheVariants.{Loaded}
-use Rattle.hl_memory.specs.OneTrace.{acts_by}
-use Rattle.hl_memory.specs.Records.{loads_from, RecordsAreFoundBy, RecordsAreWhole}
+use Rattle.hl_traces.specs.declared.act.Act.{Act}
+use Rattle.hl_traces.specs.declared.act.Act.TheVariants.{Loaded}
+use Rattle.hl_traces.specs.OneTrace.{acts_by}
+use Rattle.hl_traces.specs.Records.{loads_from, RecordsAreFoundBy, RecordsAreWhole}
 use Rattle.hl.specs.Devices.{on_memory}
 use Rattle.hl.specs.Left.{AreLeft}
 use Rattle.hl.specs.Scans.{AreTold as AreFound, RecordsAreScanned}

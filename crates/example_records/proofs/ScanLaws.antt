@@ -3,7 +3,7 @@ use Rattle.std.proofs.Common.{◌≡◌, ◌≢◌, ℕ, suc, ◌+◌, ◌-◌, 
 use Rattle.std.proofs.lemmas.Bool.{and_from}
 use Rattle.std.proofs.lemmas.List.{get_or-drop, get_or-take, get_or_push, length-drop, length-take-le, length_push, same_lists}
 use Rattle.std.proofs.lemmas.Option.{slice_get-get_or}
-use Rattle.hl_memory.specs.Records.{Appended}
+use Rattle.hl_traces.specs.Records.{Appended}
 use Rattle.hl.specs.Scans.{AreBelow, AreWhole, CanScan, HasEnds, IsRefusedAt, IsWholeAt}
 use Rattle.example_records.specs.Records.{framed, is_framed}
 

@@ -5,9 +5,9 @@ use Rattle.std.proofs.lemmas.List.{append_assoc, map_push}
 use Rattle.std.proofs.lemmas.Option.{same_Some}
 use Rattle.hl_model.specs.declared.fault.Fault.{Fault}
 use Rattle.hl_domain.specs.Domains.{stays_current}
-use Rattle.hl_memory.specs.declared.act.Act.{Act}
-use Rattle.hl_memory.specs.declared.act.Act.TheVariants.{Loaded, Met}
-use Rattle.hl_memory.specs.Records.{changes, loads_from}
+use Rattle.hl_traces.specs.declared.act.Act.{Act}
+use Rattle.hl_traces.specs.declared.act.Act.TheVariants.{Loaded, Met}
+use Rattle.hl_traces.specs.Records.{changes, loads_from}
 use Rattle.hl.specs.Sessions.{SessionState}
 use Rattle.hl.specs.Traces.{acts, AppendsBy, AreMet, KeepsUpBy, OnlyMeets}
 use Rattle.hl.specs.Uses.{AppendsMore, AreNumbers, HasAppended}

@@ -1,8 +1,8 @@
 -- What threads that append records and read them tell, and what is found once the log is closed.
 use Rattle.std.specs.Prelude.{ℕ, ◌≡◌, ◌≢◌, ◌<◌, ◌+◌, ◌-◌, ◌==◌, ◌&&◌, not, Bool, Some, Ok, List, [], ◌∷◌, ◌++◌, length, map, slice_get, get_or}
-use Rattle.hl_memory.specs.declared.act.Act.{Act}
-use Rattle.hl_memory.specs.declared.act.Act.TheVariants.{Loaded}
-use Rattle.hl_memory.specs.Records.{Appended, changes, loads_from}
+use Rattle.hl_traces.specs.declared.act.Act.{Act}
+use Rattle.hl_traces.specs.declared.act.Act.TheVariants.{Loaded}
+use Rattle.hl_traces.specs.Records.{Appended, changes, loads_from}
 use Rattle.hl.specs.Scans.{AreTold as AreFound, AreWhole, CanScan}
 use Rattle.hl.specs.Sessions.{SessionState}
 use Rattle.hl.specs.Traces.{Told}

@@ -8,7 +8,7 @@ use hl::{
     AnyAnswer, Duty, Ending, Fault, HasSizes, MemoryDevice, NoJob, Opening, Outs, Written, laws,
     with_memory, words_left,
 };
-use hl_memory::laws as memory;
+use hl_traces::laws as traces;
 use std::alloc::Global;
 use std::sync::Wait;
 use std::sync::atomic::AtomicU64;
@@ -64,8 +64,8 @@ pub fn keep<R: Threads + Wait + Sync, S: HasSizes>(
     };
     laws::threads_append::<R, _>(&work);
     laws::records_are_scanned::<R, _>(&work);
-    memory::records_are_found_by();
-    memory::records_are_whole();
+    traces::records_are_found_by();
+    traces::records_are_whole();
     let closed = with_memory(rt, alloc, opening, duty, &work, device)?;
     let Written { outs, device } = closed.out;
     let reports = outs?;

@@ -34,12 +34,12 @@ use Rattle.hl_keeper.specs.Touches.{is_call}
 use Rattle.hl_domain.specs.Domains.{DomainState, IsAt, setup_of, answered, call_of, enter_call, no_step, pass_call, with_entry, with_held, after_news, stays_current, LeavesUnderLock, MakesUnderLock, Refreshed}
 use Rattle.hl_domain.specs.Riders.{LooksAtSteps}
 use Rattle.hl_images.specs.Entered.{is_touch}
-use Rattle.hl_memory.specs.declared.act.Act.{Act}
-use Rattle.hl_memory.specs.declared.act.Act.TheVariants.{Placed, Stored, Loaded, Changed, Met}
+use Rattle.hl_traces.specs.declared.act.Act.{Act}
+use Rattle.hl_traces.specs.declared.act.Act.TheVariants.{Placed, Stored, Loaded, Changed, Met}
 use Rattle.hl_memory.specs.Acts.{is_of_pages}
-use Rattle.hl_memory.specs.Traces.{moves_slot, placed_by, trace, RiderTraces, PassTraces, RiderDoes, PassDoes}
+use Rattle.hl_traces.specs.Traces.{moves_slot, placed_by, trace, RiderTraces, PassTraces, RiderDoes, PassDoes}
 use Rattle.hl_memory.proofs.KeepLaws.{calls_meet_view}
-use Rattle.hl_memory.proofs.TraceLaws.{rests, acquires, stores, changes, loads, compares, looks, news, safe_looks, goes_on, call, refused, releases}
+use Rattle.hl_traces.proofs.TraceLaws.{rests, acquires, stores, changes, loads, compares, looks, news, safe_looks, goes_on, call, refused, releases}
 use Rattle.hl_crew.specs.declared.limits.Cuts.{Cuts}
 use Rattle.hl_crew.specs.declared.limits.Cuts.TheVariants.{Never, EachTurn, Above}
 use Rattle.hl_crew.specs.Cutting.{MakesRoom, EndsTurn}

@@ -2,9 +2,9 @@
 use Rattle.std.proofs.Common.{◌≡◌, ℕ, zero, suc, ◌+◌, ◌<◌, ◌⊎◌, Bool, true, List, [], ◌∷◌, ◌++◌, length, take, flat_map, slice_get, Some, refl, ap, sym, ◌∙◌, subst, inl, inr, ⊎_elim, append_assoc}
 use Rattle.std.specs.Prelude.{Ok, Err}
 use Rattle.std.specs.List.{AllByRecursion as Every}
-use Rattle.hl_memory.specs.declared.act.Act.{Act}
-use Rattle.hl_memory.specs.declared.act.Act.TheVariants.{Placed, Stored, Loaded, Changed, Met}
-use Rattle.hl_memory.specs.Records.{Appended, append_acts, changes, stores_from, AppendsOnly}
+use Rattle.hl_traces.specs.declared.act.Act.{Act}
+use Rattle.hl_traces.specs.declared.act.Act.TheVariants.{Placed, Stored, Loaded, Changed, Met}
+use Rattle.hl_traces.specs.Records.{Appended, append_acts, changes, stores_from, AppendsOnly}
 use Rattle.hl.specs.Sessions.{SessionState}
 use Rattle.hl.specs.Traces.{acts, without_met, AreMet, InVain}
 use Rattle.hl.specs.Uses.{whole, AppendsMore, AreJust, AreNumbers}

@@ -8,11 +8,11 @@ use Rattle.hl_model.specs.declared.fault.Fault.{Fault}
 use Rattle.hl_model.specs.Sizes.{Sizes, AreInRange}
 use Rattle.hl_words.specs.States.{RiderState}
 use Rattle.hl_words.proofs.Cut.{every_weaker}
-use Rattle.hl_memory.specs.declared.act.Act.{Act}
-use Rattle.hl_memory.specs.declared.act.Act.TheVariants.{Placed, Stored, Loaded, Changed, Met}
-use Rattle.hl_memory.specs.OneTrace.{ActBy, by_thread, acts_by, leaves_at, left_at, ends_at, placed_end, EndsBelow, LeftUpTo, Follows, LiesBehind, AreInRow, AreOne, HasOneTrace, PlacesNone, Serves}
-use Rattle.hl_memory.specs.Traces.{trace, RiderTraces}
-use Rattle.hl_memory.proofs.JoinLaws.{not_both}
+use Rattle.hl_traces.specs.declared.act.Act.{Act}
+use Rattle.hl_traces.specs.declared.act.Act.TheVariants.{Placed, Stored, Loaded, Changed, Met}
+use Rattle.hl_traces.specs.OneTrace.{ActBy, by_thread, acts_by, leaves_at, left_at, ends_at, placed_end, EndsBelow, LeftUpTo, Follows, LiesBehind, AreInRow, AreOne, HasOneTrace, PlacesNone, Serves}
+use Rattle.hl_traces.specs.Traces.{trace, RiderTraces}
+use Rattle.hl_traces.proofs.JoinLaws.{not_both}
 use Rattle.hl_crew.specs.declared.limits.Cuts.{Cuts}
 use Rattle.hl_image.specs.Image.{image}
 use Rattle.hl.specs.declared.finished.Finished.{Finished}

@@ -10,7 +10,7 @@ use Rattle.hl_model.specs.Sizes.{Sizes}
 use Rattle.hl_keeper.specs.Endings.{EndingState}
 use Rattle.hl_image.specs.Image.{eight_bytes, image}
 use Rattle.hl_image.specs.Pages.{image_at}
-use Rattle.hl_memory.specs.OneTrace.{ActBy, left_at, page_left}
+use Rattle.hl_traces.specs.OneTrace.{ActBy, left_at, page_left}
 use Rattle.hl.specs.declared.memory.MemoryDevice.{MemoryDevice}
 use Rattle.hl.specs.Devices.{on_memory, Differs}
 use Rattle.hl.specs.Left.{word_in, IsLeft}

@@ -5,10 +5,10 @@ use Rattle.std.specs.List.{AllByRecursion as Every, flat_map}
 use Rattle.std.proofs.Math.Seq.{take-suc, take-suc-set}
 use Rattle.std.proofs.lemmas.List.{length-take}
 use Rattle.hl_model.specs.declared.fault.Fault.{Fault}
-use Rattle.hl_memory.specs.declared.act.Act.{Act}
-use Rattle.hl_memory.specs.declared.act.Act.TheVariants.{Placed, Stored, Loaded, Changed, Met}
+use Rattle.hl_traces.specs.declared.act.Act.{Act}
+use Rattle.hl_traces.specs.declared.act.Act.TheVariants.{Placed, Stored, Loaded, Changed, Met}
 use Rattle.hl.specs.Sessions.{SessionState}
-use Rattle.hl_memory.specs.Records.{loads_from, stores_from}
+use Rattle.hl_traces.specs.Records.{loads_from, stores_from}
 use Rattle.hl.specs.Traces.{acts, if_ok, without_met, AreMet, Does, InVain, Meets, OnlyMeets, PlacesBy, Stores, StoresSome, AppendsBy}
 
 -- a row of loads, with one more

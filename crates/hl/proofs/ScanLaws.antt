@@ -2,9 +2,9 @@
 use Rattle.std.proofs.Common.{◌≡◌, ◌≢◌, ℕ, zero, suc, ◌+◌, ◌-◌, ◌<◌, ◌≤◌, ◌⊎◌, Bool, true, List, [], ◌∷◌, ◌++◌, length, Some, slice_get, get_or, refl, sym, ap, ◌∙◌, subst, inl, inr, ⊎_elim, arith}
 use Rattle.std.proofs.lemmas.Bool.{cases_eq, cases_lt}
 use Rattle.std.proofs.lemmas.Option.{same_Some, get_or_from_slice_get, slice_get-get_or, slice_get_within}
-use Rattle.hl_memory.specs.OneTrace.{ActBy}
-use Rattle.hl_memory.specs.Records.{Appended, IsWordOf}
-use Rattle.hl_memory.proofs.RecordLaws.{records_are_apart}
+use Rattle.hl_traces.specs.OneTrace.{ActBy}
+use Rattle.hl_traces.specs.Records.{Appended, IsWordOf}
+use Rattle.hl_traces.proofs.RecordLaws.{records_are_apart}
 use Rattle.hl.specs.Left.{HaveRecords}
 use Rattle.hl.specs.Scans.{AreBelow, AreTold, AreWhole, CanScan, HasEnds, IsRefusedAt, IsWholeAt, RecordsAreScanned}
 use Rattle.hl.specs.Uses.{whole, AllHaveAppended, AreJust}

@@ -24,11 +24,11 @@ use Rattle.hl_domain.specs.Domains.{DomainState, IsEnding}
 use Rattle.hl_image.specs.Image.{image}
 use Rattle.hl_images.specs.Entered.{newest_writes}
 use Rattle.hl_images.specs.Kept.{RiderEnters}
-use Rattle.hl_memory.specs.declared.act.Act.{Act}
+use Rattle.hl_traces.specs.declared.act.Act.{Act}
 use Rattle.hl_memory.specs.Acts.{is_of_pages, NoneOfPages}
-use Rattle.hl_memory.specs.OneTrace.{acts_by, page_left, placed_end, ActBy, AreInRow, PlacesNone, Serves, HasOneTrace}
-use Rattle.hl_memory.specs.Traces.{placed_by, places, trace, RiderTraces}
-use Rattle.hl_memory.proofs.OneLaws.{traces_are_one}
+use Rattle.hl_traces.specs.OneTrace.{acts_by, page_left, placed_end, ActBy, AreInRow, PlacesNone, Serves, HasOneTrace}
+use Rattle.hl_traces.specs.Traces.{placed_by, places, trace, RiderTraces}
+use Rattle.hl_traces.proofs.OneLaws.{traces_are_one}
 use Rattle.hl_crew.specs.Riders.{has_flushed, is_crew_step, MakesCrewSteps}
 use Rattle.hl.specs.declared.opening.Opening.{Opening}
 use Rattle.hl.specs.Closings.{rider_at, AllReturned, AreAllReturned, CountReturned, FlushesTaken, Stood, Tells}

@@ -7,12 +7,12 @@ use Rattle.std.proofs.lemmas.List.{length-map}
 use Rattle.std.proofs.lemmas.Option.{slice_get_cases}
 use Rattle.hl_images.proofs.WordLaws.{mapped_at}
 use Rattle.hl_words.proofs.Cut.{every_weaker}
-use Rattle.hl_memory.specs.declared.act.Act.{Act}
-use Rattle.hl_memory.specs.Counters.{AddsAt}
-use Rattle.hl_memory.specs.OneTrace.{ActBy, acts_by}
-use Rattle.hl_memory.specs.Records.{Appended, changes, AppendsOnly}
-use Rattle.hl_memory.proofs.BeyondLaws.{none_of_other}
-use Rattle.hl_memory.proofs.CounterLaws.{counters_are_sums}
+use Rattle.hl_traces.specs.declared.act.Act.{Act}
+use Rattle.hl_traces.specs.Counters.{AddsAt}
+use Rattle.hl_traces.specs.OneTrace.{ActBy, acts_by}
+use Rattle.hl_traces.specs.Records.{Appended, changes, AppendsOnly}
+use Rattle.hl_traces.proofs.BeyondLaws.{none_of_other}
+use Rattle.hl_traces.proofs.CounterLaws.{counters_are_sums}
 use Rattle.hl.specs.Sessions.{SessionState}
 use Rattle.hl.specs.Threads.{ThreadActs}
 use Rattle.hl.specs.Traces.{acts, AreMet, IsFresh}

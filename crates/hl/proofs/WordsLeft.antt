@@ -5,9 +5,9 @@ use Rattle.std.proofs.lemmas.List.{length_push}
 use Rattle.std.proofs.lemmas.Option.{same_Some, slice_get-get_or, slice_get_within}
 use Rattle.hl_model.specs.Sizes.{Sizes}
 use Rattle.hl_keeper.specs.Endings.{EndingState}
-use Rattle.hl_memory.specs.OneTrace.{ActBy, left_at, AreOne}
-use Rattle.hl_memory.specs.Records.{Appended, AllAppend, IsWordOf}
-use Rattle.hl_memory.proofs.RecordLaws.{others_are_zero, records_stay}
+use Rattle.hl_traces.specs.OneTrace.{ActBy, left_at, AreOne}
+use Rattle.hl_traces.specs.Records.{Appended, AllAppend, IsWordOf}
+use Rattle.hl_traces.proofs.RecordLaws.{others_are_zero, records_stay}
 use Rattle.hl.specs.declared.memory.MemoryDevice.{MemoryDevice}
 use Rattle.hl.specs.Devices.{on_memory, Differs}
 use Rattle.hl.specs.Left.{AreLeft, HaveRecords, IsLeft, WordsAreRecords}

@@ -10,8 +10,8 @@ use Rattle.hl_domain.specs.Domains.{DomainState, IsEnding}
 use Rattle.hl_image.specs.Image.{image}
 use Rattle.hl_images.specs.Flushes.{HasFlushed}
 use Rattle.hl_images.specs.Kept.{RiderEnters}
-use Rattle.hl_memory.specs.declared.act.Act.TheVariants.{Met}
-use Rattle.hl_memory.specs.Traces.{trace, RiderTraces, PassTraces}
+use Rattle.hl_traces.specs.declared.act.Act.TheVariants.{Met}
+use Rattle.hl_traces.specs.Traces.{trace, RiderTraces, PassTraces}
 use Rattle.hl_images.specs.Sweeps.{StoresSweep}
 use Rattle.hl_crew.specs.declared.crew.Crew.{Crew}
 use Rattle.hl_crew.specs.declared.crew.CrewReport.{CrewReport}

@@ -3,8 +3,8 @@ use Rattle.std.specs.Prelude.{◌≡◌, ℕ, ◌+◌, ◌*◌, ◌/◌, ◌<◌
 use Rattle.byteorder.specs.Endian.{big_number}
 use Rattle.hl_model.specs.Sizes.{Sizes}
 use Rattle.hl_keeper.specs.Endings.{EndingState}
-use Rattle.hl_memory.specs.OneTrace.{ActBy, left_at, AreOne}
-use Rattle.hl_memory.specs.Records.{Appended, AllAppend, IsWordOf}
+use Rattle.hl_traces.specs.OneTrace.{ActBy, left_at, AreOne}
+use Rattle.hl_traces.specs.Records.{Appended, AllAppend, IsWordOf}
 use Rattle.hl.specs.declared.memory.MemoryDevice.{MemoryDevice}
 use Rattle.hl.specs.Devices.{on_memory, Differs}
 use Rattle.hl.specs.Threads.{HoldsTrace}

@@ -2,8 +2,8 @@
 use Rattle.std.specs.Prelude.{ℕ, ◌≡◌, ◌≢◌, ◌<◌, ◌≤◌, ◌+◌, ◌-◌, ◌⊎◌, Bool, true, Some, List, [], ◌∷◌, ◌++◌, length, slice_get, get_or}
 use Rattle.hl_model.specs.Sizes.{Sizes}
 use Rattle.hl_keeper.specs.Endings.{EndingState}
-use Rattle.hl_memory.specs.OneTrace.{ActBy, AreOne}
-use Rattle.hl_memory.specs.Records.{Appended}
+use Rattle.hl_traces.specs.OneTrace.{ActBy, AreOne}
+use Rattle.hl_traces.specs.Records.{Appended}
 use Rattle.hl.specs.declared.memory.MemoryDevice.{MemoryDevice}
 use Rattle.hl.specs.Devices.{on_memory}
 use Rattle.hl.specs.Left.{AreLeft}

@@ -9,8 +9,8 @@ use Rattle.hl_keeper.specs.Endings.{EndingState}
 use Rattle.hl_keeper.specs.Passes.{cell_at}
 use Rattle.hl_domain.specs.Domains.{DomainState, IsEnding}
 use Rattle.hl_image.specs.Image.{image}
-use Rattle.hl_memory.specs.declared.act.Act.{Act}
-use Rattle.hl_memory.specs.OneTrace.{ActBy, acts_by, left_at, page_left, placed_end, AreInRow, AreOne}
+use Rattle.hl_traces.specs.declared.act.Act.{Act}
+use Rattle.hl_traces.specs.OneTrace.{ActBy, acts_by, left_at, page_left, placed_end, AreInRow, AreOne}
 use Rattle.hl.specs.declared.finished.Finished.{Finished}
 use Rattle.hl.specs.Closings.{AllReturned}
 use Rattle.hl.specs.LastSession.{Finishing}

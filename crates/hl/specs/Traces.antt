@@ -5,10 +5,10 @@ use Rattle.hl_model.specs.declared.fault.Fault.{Fault}
 use Rattle.hl_words.specs.States.{RiderState}
 use Rattle.hl_domain.specs.Domains.{DomainState, stays_current}
 use Rattle.hl_keeper.specs.Passes.{PassRecord}
-use Rattle.hl_memory.specs.declared.act.Act.{Act}
-use Rattle.hl_memory.specs.declared.act.Act.TheVariants.{Placed, Loaded, Changed, Met}
-use Rattle.hl_memory.specs.Records.{stores_from}
-use Rattle.hl_memory.specs.Traces.{trace, PassDoes, RiderDoes}
+use Rattle.hl_traces.specs.declared.act.Act.{Act}
+use Rattle.hl_traces.specs.declared.act.Act.TheVariants.{Placed, Loaded, Changed, Met}
+use Rattle.hl_traces.specs.Records.{stores_from}
+use Rattle.hl_traces.specs.Traces.{trace, PassDoes, RiderDoes}
 use Rattle.hl.specs.declared.refused.Refused.{Refused}
 use Rattle.hl.specs.Sessions.{SessionState}
 

@@ -2,10 +2,10 @@
 use Rattle.std.specs.Prelude.{ℕ, ◌≡◌, ◌<◌, ◌%◌, ◌^◌, ◌⊎◌, Bool, true, Some, Result, MatchResult, List, [], ◌∷◌, ◌++◌, length, map, slice_get}
 use Rattle.std.specs.List.{AllByRecursion, sum}
 use Rattle.hl_model.specs.declared.fault.Fault.{Fault}
-use Rattle.hl_memory.specs.declared.act.Act.{Act}
-use Rattle.hl_memory.specs.Counters.{AddsAt}
-use Rattle.hl_memory.specs.OneTrace.{ActBy, acts_by, left_at, AreOne}
-use Rattle.hl_memory.specs.Records.{Appended, AppendsOnly, AllAppend}
+use Rattle.hl_traces.specs.declared.act.Act.{Act}
+use Rattle.hl_traces.specs.Counters.{AddsAt}
+use Rattle.hl_traces.specs.OneTrace.{ActBy, acts_by, left_at, AreOne}
+use Rattle.hl_traces.specs.Records.{Appended, AppendsOnly, AllAppend}
 use Rattle.hl.specs.Sessions.{SessionState}
 use Rattle.hl.specs.Threads.{ThreadActs}
 use Rattle.hl.specs.Traces.{acts, AppendsBy, IsFresh}

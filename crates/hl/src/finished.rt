@@ -2,7 +2,7 @@
 ghost use Rattle.std.specs.Prelude.{◌≡◌, ◌+◌, ◌<◌, ◌≤◌, [], length, map, vec_len, vec_capacity, true, false, Ok, Err, is_some, IfOk, MatchResult};
 ghost use Rattle.hl_model.specs.declared.fault.Fault.TheVariants.{Size};
 ghost use Rattle.hl_words.specs.States.{IsSeedOf};
-ghost use Rattle.hl_memory.specs.Traces.{RiderTraces};
+ghost use Rattle.hl_traces.specs.Traces.{RiderTraces};
 ghost use Rattle.hl_crew.specs.Limited.{duty_cuts};
 ghost use Rattle.hl.specs.Closings.{Tells};
 ghost use Rattle.hl.specs.Configs.{all_fit, cuts_of, opening_of, sizes_of_config};

@@ -65,7 +65,7 @@ pub fn appends_more()
 {}
 
 /// All that the threads of a work did is appends of records, where `returns` says so of each: then what it appended is read
-/// by everybody as it was appended, by the laws of [`hl_memory`](hl_memory::laws) on records. Those whose words were all
+/// by everybody as it was appended, by the laws of [`hl_traces`](hl_traces::laws) on records. Those whose words were all
 /// stored are just those that the threads tell.
 pub fn threads_append<R: Wait, P: Work<R>>(_work: &P)
     ensures { ThreadsAppend (P.returns _work.now) }

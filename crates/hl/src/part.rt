@@ -9,7 +9,7 @@ pub trait Part<R> {
     ghost use Rattle.std.specs.List.{AllByRecursion};
     ghost use Rattle.hl_words.specs.States.{RiderState};
     ghost use Rattle.hl_domain.specs.Domains.{DomainState};
-    ghost use Rattle.hl_memory.specs.Traces.{RiderTraces};
+    ghost use Rattle.hl_traces.specs.Traces.{RiderTraces};
 
     /// The jobs that its bumps store: [`NoJob`](hl_action::NoJob) if it stores none.
     type Job: Task;

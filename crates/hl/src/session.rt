@@ -4,8 +4,8 @@ ghost use Rattle.hl_keeper.specs.Passes.{seen, with_rider, with_tail};
 ghost use Rattle.hl_keeper.specs.Leases.{placed};
 ghost use Rattle.hl_domain.specs.Domains.{with_held, after_news, stays_current, Refreshed};
 ghost use Rattle.hl_domain.specs.Riders.{Allocates};
-ghost use Rattle.hl_memory.specs.declared.act.Act.TheVariants.{Placed};
-ghost use Rattle.hl_memory.specs.Traces.{PassTraces, RiderTraces};
+ghost use Rattle.hl_traces.specs.declared.act.Act.TheVariants.{Placed};
+ghost use Rattle.hl_traces.specs.Traces.{PassTraces, RiderTraces};
 ghost use Rattle.hl.specs.Traces.{if_ok, EntersBy, KeepsUpBy, LeavesBy, Meets};
 ghost use Rattle.hl.specs.Sessions.{alone, beside_of, with_pass, Asked, Entered, Left};
 
@@ -62,7 +62,7 @@ pub struct Session<
 }
 
 impl<'a, R, L: Realm, F: Task, P: Promise, E: Epochs> Model for Session<'a, R, L, F, P, E> {
-    ghost use Rattle.hl_memory.specs.Traces.{PassTraces};
+    ghost use Rattle.hl_traces.specs.Traces.{PassTraces};
     ghost use Rattle.hl.specs.Sessions.{beside_of, SessionState};
 
     ghost Value = { SessionState };

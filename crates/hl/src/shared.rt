@@ -3,7 +3,7 @@ ghost use Rattle.std.specs.Prelude.{◌≡◌, ◌++◌, ◌≤◌, map, length,
 ghost use Rattle.std.specs.List.{AllByRecursion};
 ghost use Rattle.hl_model.specs.declared.fault.Fault.TheVariants.{OutOfMemory};
 ghost use Rattle.hl_words.specs.States.{new_riders};
-ghost use Rattle.hl_memory.specs.Traces.{RiderTraces};
+ghost use Rattle.hl_traces.specs.Traces.{RiderTraces};
 ghost use Rattle.hl_crew.specs.Riders.{riders_of};
 ghost use Rattle.hl.specs.Closings.{AreLeft, CrewHasWorked, HasServed, HaveWorked, Tells};
 ghost use Rattle.hl.specs.declared.sink.Sink.{Sink};

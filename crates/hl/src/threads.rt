@@ -37,7 +37,7 @@ use std::thread::Threads;
 /// either, as where others fill the journal each time. By another duty a leave is tried once, and cuts nothing.
 ///
 /// If each thread returned a value and the ending is there, **all that the threads did is one trace** (`HaveOneTrace`): one
-/// list of plain [`Act`](hl_memory::Act)s, of each thread just its own, in its order. Each load, and each change, found what
+/// list of plain [`Act`](hl_traces::Act)s, of each thread just its own, in its order. Each load, and each change, found what
 /// the newest store before it at that very address left, or 0; no two records share an address. At the end the words in
 /// memory, from the closed offset to the tail, are what the list leaves there, and the device took the image of each page
 /// below the flushed offset, with the words that the list leaves.

@@ -13,13 +13,3 @@ pub mod WrittenLaws
 pub mod WordLaws
 pub mod ImageLaws
 pub mod SumLaws
-pub mod TraceLaws
-pub mod JoinLaws
-pub mod ThreadLaws
-pub mod BeyondLaws
-pub mod OneLaws
-pub mod CounterLaws
-pub mod AppendLaws
-pub mod RecordLaws
-pub mod WholeLaws
-pub mod TailLaws

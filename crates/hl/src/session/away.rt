@@ -2,7 +2,7 @@
 //! closure is called with what only the leave makes, and only what the call makes can enter.
 ghost use Rattle.std.specs.Prelude.{◌≡◌, Ok, Err, MatchResult};
 ghost use Rattle.hl_keeper.specs.Passes.{with_rider};
-ghost use Rattle.hl_memory.specs.Traces.{RiderTraces};
+ghost use Rattle.hl_traces.specs.Traces.{RiderTraces};
 ghost use Rattle.hl.specs.Openings.{was_refused};
 ghost use Rattle.hl.specs.Rests.{by_pass, Reenters};
 ghost use Rattle.hl.specs.Sessions.{Left};

@@ -1,6 +1,6 @@
 //! A session's rest: its slot is left for a time.
 ghost use Rattle.std.specs.Prelude.{◌≡◌};
-ghost use Rattle.hl_memory.specs.Traces.{PassTraces};
+ghost use Rattle.hl_traces.specs.Traces.{PassTraces};
 ghost use Rattle.hl.specs.Rests.{Rests, RestsOf};
 ghost use Rattle.hl.specs.Traces.{OnlyMeets, PassMeets};
 

@@ -6,7 +6,7 @@ ghost use Rattle.hl_keeper.specs.Passes.{store_fault};
 ghost use Rattle.hl_domain.specs.Words.{HasStored};
 ghost use Rattle.hl.specs.Records.{row_fault, with_loads, AreStored, RefusesStore, StopsAt, Places, Appends};
 ghost use Rattle.hl.specs.Sessions.{with_pass};
-ghost use Rattle.hl_memory.specs.Records.{loads_from};
+ghost use Rattle.hl_traces.specs.Records.{loads_from};
 ghost use Rattle.hl.specs.Traces.{acts, AppendsBy, Does, OnlyMeets, PlacesBy, Stores, StoresSome};
 
 use super::Session;

@@ -1,7 +1,7 @@
 //! A rider's time between two sessions (FASTER's `Suspend` and `Resume`).
 ghost use Rattle.std.specs.Prelude.{◌≡◌, IfOk, IfErr};
 ghost use Rattle.hl_keeper.specs.Passes.{with_rider};
-ghost use Rattle.hl_memory.specs.Traces.{RiderTraces};
+ghost use Rattle.hl_traces.specs.Traces.{RiderTraces};
 ghost use Rattle.hl.specs.Rests.{entered_session, left_rider, Resumed, Suspended};
 ghost use Rattle.hl.specs.Sessions.{with_pass};
 ghost use Rattle.hl.specs.Traces.{EntersBy, LeavesBy};
@@ -33,7 +33,7 @@ pub struct Resting<
 }
 
 impl<'a, R, L: Realm, F: Task, P: Promise, E: Epochs> Model for Resting<'a, R, L, F, P, E> {
-    ghost use Rattle.hl_memory.specs.Traces.{RiderTraces};
+    ghost use Rattle.hl_traces.specs.Traces.{RiderTraces};
     ghost use Rattle.hl.specs.Rests.{RestState};
     ghost use Rattle.hl.specs.Sessions.{beside_of};
 

@@ -3,7 +3,7 @@
 ghost use Rattle.std.specs.Prelude.{◌≡◌, [], ◌∷◌, IfErr};
 ghost use Rattle.hl_domain.specs.Riders.{Bumps, Cuts, LooksAtSteps, Takes};
 ghost use Rattle.hl_crew.specs.Tries.{EndsAction};
-ghost use Rattle.hl_memory.specs.declared.act.Act.TheVariants.{Met};
+ghost use Rattle.hl_traces.specs.declared.act.Act.TheVariants.{Met};
 ghost use Rattle.hl.specs.Sessions.{fault_alone, KeepsAllButRider};
 ghost use Rattle.hl.specs.Traces.{Does, Meets};
 

@@ -1,7 +1,7 @@
 //! What a thread does in its slot without the lock: looks, stores, loads, and words changed in one step.
 ghost use Rattle.hl_domain.specs.Words.{HasAdded, HasExchanged, HasLoaded, HasLooked, HasStored};
 ghost use Rattle.std.specs.Prelude.{[], ◌∷◌, ◌+◌, ◌%◌, ◌^◌};
-ghost use Rattle.hl_memory.specs.declared.act.Act.TheVariants.{Stored, Loaded, Changed};
+ghost use Rattle.hl_traces.specs.declared.act.Act.TheVariants.{Stored, Loaded, Changed};
 ghost use Rattle.hl.specs.Sessions.{with_pass};
 ghost use Rattle.hl.specs.Traces.{exchanged, if_ok, Does};
 

@@ -1,5 +1,5 @@
 use Rattle.std.proofs.Common.{ℕ, ◌-◌, List, length}
-use Rattle.hl_memory.specs.Records.{Appended}
+use Rattle.hl_traces.specs.Records.{Appended}
 use Rattle.hl.specs.Scans.{AreBelow, CanScan}
 use Rattle.example_records.specs.Records.{is_framed, rows_of}
 use Rattle.example_records.proofs.scan.scan.Given as goal

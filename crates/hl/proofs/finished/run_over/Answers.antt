@@ -1,6 +1,6 @@
 use Rattle.std.proofs.Common.{rules, arith, ◌≡◌, ◌+◌, false, true, length, ap, sym, ◌∙◌, subst}
-use Rattle.hl_memory.specs.Traces.{RiderTraces}
-use Rattle.hl_memory.proofs.TraceLaws.{new_traces}
+use Rattle.hl_traces.specs.Traces.{RiderTraces}
+use Rattle.hl_traces.proofs.TraceLaws.{new_traces}
 use Rattle.hl_words.specs.States.{new_riders}
 use Rattle.hl_crew.specs.Limited.{duty_cuts}
 use Rattle.hl.proofs.OutLaws.{all_new}

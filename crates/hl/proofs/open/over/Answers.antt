@@ -1,7 +1,7 @@
 use Rattle.std.proofs.Common.{sym, subst}
 use Rattle.std.specs.List.{AllByRecursion}
-use Rattle.hl_memory.specs.Traces.{RiderTraces}
-use Rattle.hl_memory.proofs.TraceLaws.{new_traces}
+use Rattle.hl_traces.specs.Traces.{RiderTraces}
+use Rattle.hl_traces.proofs.TraceLaws.{new_traces}
 use Rattle.hl.proofs.OutLaws.{news_all}
 use Rattle.hl.proofs.open.over.Goals as goal
 

@@ -1,5 +1,5 @@
 use Rattle.std.proofs.Common.{sym, subst}
-use Rattle.hl_memory.specs.Traces.{PassTraces}
+use Rattle.hl_traces.specs.Traces.{PassTraces}
 use Rattle.hl.proofs.ActLaws.{quiet, released}
 use Rattle.hl.proofs.session.Session.leave.Goals as goal
 

@@ -1,7 +1,7 @@
 use Rattle.std.proofs.Common.{◌≡◌, length, take}
 use Rattle.hl.specs.Records.{with_loads}
 use Rattle.hl.specs.Sessions.{with_pass}
-use Rattle.hl_memory.specs.Records.{loads_from}
+use Rattle.hl_traces.specs.Records.{loads_from}
 use Rattle.hl.specs.Traces.{acts}
 use Rattle.hl.proofs.session.Session.load_into.Given as goal
 

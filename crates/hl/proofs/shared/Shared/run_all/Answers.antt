@@ -5,8 +5,8 @@ use Rattle.std.proofs.lemmas.List.{length-map}
 use Rattle.hl_images.specs.Kept.{RiderEnters}
 use Rattle.hl_images.specs.Sweeps.{StoresSweep}
 use Rattle.hl_images.proofs.KeptLaws.{riders_stay_entered}
-use Rattle.hl_memory.specs.Traces.{RiderTraces}
-use Rattle.hl_memory.proofs.TraceLaws.{new_traces}
+use Rattle.hl_traces.specs.Traces.{RiderTraces}
+use Rattle.hl_traces.proofs.TraceLaws.{new_traces}
 use Rattle.hl_crew.specs.Limited.{duty_cuts}
 use Rattle.hl_crew.specs.Riders.{CutsNone, FlushesNone, MakesCrewSteps, RidersStay, riders_of}
 use Rattle.hl.specs.Devices.{device_has}

@@ -1,7 +1,7 @@
 use Rattle.std.proofs.Common.{rules, arith, ◌≡◌, ◌<◌, map, length, slice_index_or, ap, sym, ◌∙◌, subst, Some, option_map}
 use Rattle.std.specs.Prelude.{is_some}
 use Rattle.std.specs.Vec.Iter.{into_iter_items}
-use Rattle.hl_memory.specs.Traces.{RiderTraces}
+use Rattle.hl_traces.specs.Traces.{RiderTraces}
 use Rattle.hl.proofs.OutLaws.{job_holds, work_returned, read_at}
 use Rattle.hl.proofs.shared.Shared.work_all.Goals as goal
 

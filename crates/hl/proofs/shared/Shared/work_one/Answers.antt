@@ -1,6 +1,6 @@
 use Rattle.std.proofs.Common.{rules, ◌≡◌, ◌∙◌, ap, inr, subst}
 use Rattle.hl_domain.specs.Domains.{DomainState}
-use Rattle.hl_memory.specs.Traces.{PassTraces, RiderTraces}
+use Rattle.hl_traces.specs.Traces.{PassTraces, RiderTraces}
 use Rattle.hl.specs.Sessions.{SessionState}
 use Rattle.hl.proofs.shared.Shared.work_one.Goals as goal
 

@@ -1,5 +1,5 @@
 use Rattle.std.proofs.lemmas.List.Elements.{All-from_recursion, All-pop}
-use Rattle.hl_memory.specs.Traces.{RiderTraces}
+use Rattle.hl_traces.specs.Traces.{RiderTraces}
 use Rattle.hl_workloads.proofs.hand.HandPart.run.Goals as goal
 
 -- the rider behind the flusher's is one of those that were given

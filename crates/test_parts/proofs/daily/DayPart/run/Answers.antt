@@ -1,5 +1,5 @@
 use Rattle.std.proofs.lemmas.List.Elements.{All-from_recursion, All-pop}
-use Rattle.hl_memory.specs.Traces.{RiderTraces}
+use Rattle.hl_traces.specs.Traces.{RiderTraces}
 use Rattle.test_parts.proofs.daily.DayPart.run.Goals as goal
 
 -- both riders are of those that were given

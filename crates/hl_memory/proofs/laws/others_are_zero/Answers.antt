@@ -1,6 +1,0 @@
--- the law
-use Rattle.hl_memory.proofs.RecordLaws.{others_are_zero}
-use Rattle.hl_memory.proofs.laws.others_are_zero.Goals as goal
-
-pub returns : goal.returns
-returns c = others_are_zero

@@ -1,6 +1,0 @@
--- the law
-use Rattle.hl_memory.proofs.RecordLaws.{records_are_apart}
-use Rattle.hl_memory.proofs.laws.records_are_apart.Goals as goal
-
-pub returns : goal.returns
-returns c = records_are_apart

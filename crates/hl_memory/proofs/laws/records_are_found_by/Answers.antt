@@ -1,6 +1,0 @@
--- the law
-use Rattle.hl_memory.proofs.WholeLaws.{records_are_found_by}
-use Rattle.hl_memory.proofs.laws.records_are_found_by.Goals as goal
-
-pub returns : goal.returns
-returns c = records_are_found_by

@@ -1,6 +1,0 @@
--- the law
-use Rattle.hl_memory.proofs.WholeLaws.{records_are_whole}
-use Rattle.hl_memory.proofs.laws.records_are_whole.Goals as goal
-
-pub returns : goal.returns
-returns c = records_are_whole

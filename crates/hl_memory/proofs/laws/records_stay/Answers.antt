@@ -1,6 +1,0 @@
--- the law
-use Rattle.hl_memory.proofs.RecordLaws.{records_stay}
-use Rattle.hl_memory.proofs.laws.records_stay.Goals as goal
-
-pub returns : goal.returns
-returns c = records_stay

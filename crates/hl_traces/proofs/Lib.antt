@@ -1,0 +1,10 @@
+pub mod TraceLaws
+pub mod JoinLaws
+pub mod ThreadLaws
+pub mod BeyondLaws
+pub mod OneLaws
+pub mod CounterLaws
+pub mod AppendLaws
+pub mod RecordLaws
+pub mod WholeLaws
+pub mod TailLaws

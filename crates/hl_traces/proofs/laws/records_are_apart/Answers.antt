@@ -1,0 +1,6 @@
+-- the law
+use Rattle.hl_traces.proofs.RecordLaws.{records_are_apart}
+use Rattle.hl_traces.proofs.laws.records_are_apart.Goals as goal
+
+pub returns : goal.returns
+returns c = records_are_apart

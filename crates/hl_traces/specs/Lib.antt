@@ -1,0 +1,5 @@
+pub mod Traces
+pub mod OneTrace
+pub mod Counters
+pub mod Records
+pub mod Tails
