@@ -1,5 +1,5 @@
 //! A crew's riders, page writers and counts by their names.
-ghost use Rattle.std.specs.Prelude.{◌≡◌, ◌<◌, ◌++◌, ◌↔◌, true, IfErr, IfNone, IfOk, IfSome, IsOk, MatchResult, length};
+ghost use Rattle.std.specs.Prelude.{◌≡◌, ◌<◌, ◌≤◌, ◌+◌, ◌++◌, ◌↔◌, true, IfErr, IfNone, IfOk, IfSome, IsOk, MatchResult, length, vec_len, vec_capacity};
 ghost use Rattle.hl_model.specs.declared.fault.Fault.TheVariants.{OutOfMemory};
 ghost use Rattle.hl_crew.specs.Riders.{riders_of};
 
@@ -58,11 +58,20 @@ impl<L: Realm> CrewRiders<L> {
         if riders.reserve(4).is_err() {
             return Err((Fault::OutOfMemory, self));
         }
+        self.put_back_reserved(riders);
+        Ok(())
+    }
+
+    /// Puts them behind these, where there is room for them: so it takes no memory.
+    pub fn put_back_reserved(self, riders: &mut Vec<Rider<L>>)
+        requires room { vec_len riders.old + 4 ≤ vec_capacity riders.old }
+        ensures items { riders.new.items ≡ riders.old.items ++ riders_of self }
+        ensures room { vec_capacity riders.new ≡ vec_capacity riders.old }
+    {
         riders.push_reserved(self.flusher);
         riders.push_reserved(self.first_writer);
         riders.push_reserved(self.second_writer);
         riders.push_reserved(self.cleaner);
-        Ok(())
     }
 }
 
