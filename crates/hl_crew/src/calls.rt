@@ -12,14 +12,13 @@ use crate::ended::EndFlag;
 use crate::gate::Gate;
 use crate::given::Given;
 use crate::limits::Limits;
-use crate::messages::Channels;
+use crate::memory::{CrewBuffers, CrewMemory};
 use crate::mode::Mode;
 use crate::run::Run;
 use crate::seats::Seats;
 use crate::sleepers::Sleepers;
 use crate::state::CrewState;
 use crate::stop::Stop;
-use crate::writer::Buffers;
 use hl_action::{Promise, Task};
 use hl_domain::Domain;
 use hl_epoch::Epochs;
@@ -105,6 +104,9 @@ where
         × IfErr result (λ back. RidersStay (run_cuts cut) domain.now.sizes riders back.1) }
     ensures err { IfErr result (λ back. back.0 ≡ OutOfMemory) }
 {
+    let Ok(memory) = CrewMemory::sending(alloc, domain) else {
+        return Err((Fault::OutOfMemory, riders, first, second));
+    };
     let riders = CrewRiders::of(riders);
     let crew = Crew {
         riders,
@@ -113,7 +115,7 @@ where
     };
     let limits = Limits::of_run(mutable, resident, turns, cut);
     let mode = Mode::Turns;
-    let (crew, report) = crew.run::<R, E, F, P, G, Brand>(rt, alloc, domain, gate, limits, mode);
+    let (crew, report) = crew.run::<R, E, F, P, G, Brand>(rt, memory, domain, gate, limits, mode);
     let Crew {
         riders,
         first,
@@ -186,17 +188,62 @@ impl<L: Realm, W> Crew<L, W> {
         if duty.frames() != domain.params().frames() {
             return (self, Err(Fault::Size));
         }
-        let limits = Limits::of(duty);
-        let mode = Mode::Until(stop);
-        self.run::<R, E, F, P, G, Brand>(rt, alloc, domain, gate, limits, mode)
+        match CrewBuffers::open(alloc, domain) {
+            Ok(buffers) => self.serve_with(rt, buffers, domain, gate, duty, stop),
+            Err(fault) => (self, Err(fault)),
+        }
     }
 
-    // Runs a crew within these limits, in this mode. One that serves then makes its last turns. The name says what its
-    // threads are given and do.
+    /// Serves a domain as [`Crew::serve`] does, in these buffers: so it takes no memory but for its threads. For a caller
+    /// whose other threads are to begin only once all memory was taken.
+    ///
+    /// Faults: `Size` if the duty was checked for another number of frames, and then nothing is done; `OutOfMemory` if a
+    /// thread couldn't be made. Steps that were made until then stay in the journal.
+    pub fn serve_with<R, E, F, P, G>(
+        self,
+        rt: &R,
+        buffers: CrewBuffers<L>,
+        domain: &Domain<E, F, P, L>,
+        gate: &G,
+        duty: Duty,
+        stop: &Stop,
+    ) -> (Crew<L, W>, Result<CrewReport, Fault>)
+    where
+        R: Threads + Wait + Sync,
+        E: Epochs + Drop + Send,
+        F: Task + Send,
+        P: Promise + Send,
+        L: Send + Sync,
+        W: PageWriter + Send,
+        G: Gate + Sync,
+        ensures size { duty.frames ≢ domain.now.sizes.frames → result ≡ (self, Err Size) }
+        ensures memory { duty.frames ≡ domain.now.sizes.frames
+            → IfErr result.1 (λ fault. fault ≡ OutOfMemory) }
+        ensures limits { IfOk result.1 (λ report. report.limits ≡ duty_limits duty) }
+        ensures works { IfOk result.1 (λ report. HasWorked F domain.now (duty_limits duty) (G.lets gate.now)
+            (WritesPage W.has W.wrote) (FailsPage W.has W.failed) W.failures true
+            self result.0 (counts_of report)) }
+        ensures kept { AreAsGiven W.has (duty_cuts duty.cut_above) true domain.now.sizes
+            (riders_of self.riders) result.0 }
+    {
+        if duty.frames() != domain.params().frames() {
+            return (self, Err(Fault::Size));
+        }
+        let memory = CrewMemory {
+            channels: None,
+            buffers,
+        };
+        let limits = Limits::of(duty);
+        let mode = Mode::Until(stop);
+        self.run::<R, E, F, P, G, Brand>(rt, memory, domain, gate, limits, mode)
+    }
+
+    // Runs a crew in this memory, within these limits, in this mode. One that serves then makes its last turns. The name
+    // says what its threads are given and do.
     fn run<R, E, F, P, G, K>(
         self,
         rt: &R,
-        alloc: Global,
+        memory: CrewMemory<L>,
         domain: &Domain<E, F, P, L>,
         gate: &G,
         limits: Limits,
@@ -212,6 +259,7 @@ impl<L: Realm, W> Crew<L, W> {
         G: Gate + Sync,
         K: Given<W> + Send,
         requires lag { IsLag domain.now.sizes.frames limits.mutable limits.resident }
+        requires channels { is_none memory.channels ≡ is_until mode }
         requires named { AreNamed F domain.now limits (G.lets gate.now) (WritesPage W.has W.wrote)
             (FailsPage W.has W.failed) W.failures (is_until mode)
             K.flusher K.first K.second K.cleaner (begun self) }
@@ -223,9 +271,7 @@ impl<L: Realm, W> Crew<L, W> {
         ensures kept { AreAsGiven W.has limits.cuts (is_until mode.entry) domain.now.sizes
             (riders_of self.riders) result.0 }
     {
-        let Ok((channels, buffers)) = open_rows(alloc, domain, &mode) else {
-            return (self, Err(Fault::OutOfMemory));
-        };
+        let CrewMemory { channels, buffers } = memory;
         let run = Run {
             rt,
             domain,
@@ -245,25 +291,4 @@ impl<L: Realm, W> Crew<L, W> {
         let (crew, counts) = state.into_crew();
         (crew, CrewReport::of(done.all(), counts, limits))
     }
-}
-
-// Returns all memory that a crew takes itself: the channels, if the flusher sends the pages, and for each writer its
-// buffers.
-//
-// `OutOfMemory` if memory was refused.
-fn open_rows<E: Epochs + Drop, F: Task, P: Promise, L: Realm>(
-    alloc: Global,
-    domain: &Domain<E, F, P, L>,
-    mode: &Mode<'_>,
-) -> Result<(Option<Channels>, (Buffers<L>, Buffers<L>)), Fault>
-    ensures channels { IfOk result (λ rows. is_none rows.0 ≡ is_until mode.entry.now) }
-    ensures memory { IfErr result (λ fault. fault ≡ OutOfMemory) }
-{
-    let channels = match mode {
-        Mode::Turns => Some(Channels::open(alloc).map_err(|_| Fault::OutOfMemory)?),
-        Mode::Until(_) => None,
-    };
-    let first = Buffers::open(alloc, domain)?;
-    let second = Buffers::open(alloc, domain)?;
-    Ok((channels, (first, second)))
 }

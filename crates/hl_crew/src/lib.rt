@@ -14,6 +14,13 @@
 //! Under [`run_crew`] the flusher takes the pages, sends them to the writers, which copy and write them, and answers
 //! each.
 //!
+//! # What memory it takes
+//!
+//! A crew takes all its memory before it makes a thread: for each writer the words and the image of a page, and two
+//! channels under [`run_crew`]. What its threads do then takes none. Where other threads are to begin only once nothing
+//! can be refused for memory, open the [`CrewBuffers`] before them, and call [`Crew::serve_with`] in place of
+//! [`Crew::serve`]; [`CrewRiders::put_back_reserved`] takes none either.
+//!
 //! # What an acknowledgement can do
 //!
 //! Under [`run_crew`] the flusher and the writers talk by two channels. No clause says what a channel delivers, so
@@ -85,6 +92,7 @@
 //! | Module | What it has |
 //! |---|---|
 //! | `crew`, `calls` | a crew by names; the calls |
+//! | `memory` | what memory a crew takes |
 //! | `run`, `threads`, `rounds`, `whole` | what the threads share; the threads; the end; that all were made |
 //! | `state`, `seats`, `given` | what each thread has of its own; its lock; what is known of that |
 //! | `duty`, `stop` | what a crew that serves is given; what ends it |
@@ -111,6 +119,7 @@ mod gate;
 mod given;
 mod limits;
 mod looks;
+mod memory;
 mod messages;
 mod mode;
 mod pouch;
@@ -132,5 +141,6 @@ pub use duty::Duty;
 pub use ends::{ATTEMPTS, Ends, end_by_tries};
 pub use gate::{Gate, OpenGate, Taken};
 pub use limits::{Cuts, Limits};
+pub use memory::CrewBuffers;
 pub use pouch::Pouch;
 pub use stop::Stop;

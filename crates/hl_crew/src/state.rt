@@ -6,7 +6,8 @@ use crate::cleaner::CleanerState;
 use crate::counts::Counts;
 use crate::crew::{Crew, CrewRiders};
 use crate::flusher::{Asked, FlusherState};
-use crate::writer::{Buffers, WriterState};
+use crate::memory::CrewBuffers;
+use crate::writer::WriterState;
 use hl_words::Realm;
 
 /// What each thread of a crew has of its own.
@@ -19,7 +20,7 @@ pub(crate) struct CrewState<L: Realm, W> {
 
 impl<L: Realm, W> CrewState<L, W> {
     /// Returns each thread with its rider, and the two writers with a page writer each.
-    pub(crate) fn of(crew: Crew<L, W>, buffers: (Buffers<L>, Buffers<L>)) -> CrewState<L, W>
+    pub(crate) fn of(crew: Crew<L, W>, buffers: CrewBuffers<L>) -> CrewState<L, W>
         ensures { result ≡ begun crew }
     {
         let Crew {
@@ -33,8 +34,8 @@ impl<L: Realm, W> CrewState<L, W> {
                 counts: Counts::none(),
                 asked: Asked::none(),
             },
-            first: WriterState::new(riders.first_writer, first, buffers.0),
-            second: WriterState::new(riders.second_writer, second, buffers.1),
+            first: WriterState::new(riders.first_writer, first, buffers.first),
+            second: WriterState::new(riders.second_writer, second, buffers.second),
             cleaner: CleanerState::new(riders.cleaner),
         }
     }

@@ -10,7 +10,7 @@ pub run_threads-requires-clause-named : goal.run_threads-requires-clause-named
 run_threads-requires-clause-named g c κs within = (
   begun c.args.self,
   subst (λ serves. AreNamed {L = g.row.L.Denot} {W = g.row.W.Denot} g.row.F.Denot c.args.domain.now c.args.limits (g.G.Gate.lets c.args.gate.now) (WritesPage g.W.PageWriter.has g.W.PageWriter.wrote) (FailsPage g.W.PageWriter.has g.W.PageWriter.failed) g.W.PageWriter.failures serves g.K.Given.flusher g.K.Given.first g.K.Given.second g.K.Given.cleaner (begun c.args.self))
-      (sym c.in-Ok.ensures.channels) c.requires.named,
+      (sym c.requires.channels) c.requires.named,
 )
 
 -- each thread did its work, and so did the last rounds
@@ -21,7 +21,7 @@ returns-clause-works g c =
     let done = c.end-state.result.1 in
     let named = c.requires.named in
     let rounds = subst (λ serves. RoundsIf {L = g.row.L.Denot} {W = g.row.W.Denot} g.row.F.Denot c.args.domain.now c.args.limits (g.G.Gate.lets c.args.gate.now) (WritesPage g.W.PageWriter.has g.W.PageWriter.wrote) (FailsPage g.W.PageWriter.has g.W.PageWriter.failed) g.W.PageWriter.failures (c.all.result && serves) left last)
-    c.in-Ok.ensures.channels c.end_rounds.ensures in
+    c.requires.channels c.end_rounds.ensures in
     worked_if g.row.F.Denot c.args.domain.now c.args.limits (g.G.Gate.lets c.args.gate.now) (WritesPage g.W.PageWriter.has g.W.PageWriter.wrote) (FailsPage g.W.PageWriter.has g.W.PageWriter.failed) g.W.PageWriter.failures _ c.args.self c.into_crew-crew.result.0 c.of-2.result c.into_crew-crew.result.1 c.all-2.result
     c.of-2.ensures.done c.of-2.ensures.counts
     (λ all. crew_worked g.row.F.Denot c.args.domain.now c.args.limits (g.G.Gate.lets c.args.gate.now) (WritesPage g.W.PageWriter.has g.W.PageWriter.wrote) (FailsPage g.W.PageWriter.has g.W.PageWriter.failed) g.W.PageWriter.failures _ c.args.self c.into_crew-crew.result.0 c.into_crew-crew.result.1 left last
@@ -36,7 +36,7 @@ returns-clause-kept g c =
     let done = c.end-state.result.1 in
     let named = c.requires.named in
     let rounds = subst (λ serves. RoundsIf {L = g.row.L.Denot} {W = g.row.W.Denot} g.row.F.Denot c.args.domain.now c.args.limits (g.G.Gate.lets c.args.gate.now) (WritesPage g.W.PageWriter.has g.W.PageWriter.wrote) (FailsPage g.W.PageWriter.has g.W.PageWriter.failed) g.W.PageWriter.failures (c.all.result && serves) left last)
-    c.in-Ok.ensures.channels c.end_rounds.ensures in
+    c.requires.channels c.end_rounds.ensures in
     subst (AreAsGiven g.W.PageWriter.has c.args.limits.cuts _ c.args.domain.now.sizes (riders_of c.args.self.riders)) (sym c.into_crew-crew.ensures.crew)
     (crew_works g.W.PageWriter.has g.row.F.Denot c.args.domain.now c.args.limits (g.G.Gate.lets c.args.gate.now) g.W.PageWriter.wrote g.W.PageWriter.failed g.W.PageWriter.failures c.all.result _ done.flusher done.first done.second done.cleaner c.args.self left last
     ((named.flusher_is _ _).0 c.end-state.ensures.flusher) ((named.first_is _ _).0 c.end-state.ensures.first) ((named.second_is _ _).0 c.end-state.ensures.second) ((named.cleaner_is _ _).0 c.end-state.ensures.cleaner) rounds)

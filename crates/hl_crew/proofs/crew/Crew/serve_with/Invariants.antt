@@ -2,7 +2,7 @@ use Rattle.std.specs.Prelude.{true}
 use Rattle.hl_crew.specs.Riders.{WritesPage, FailsPage}
 use Rattle.hl_crew.specs.Runs.{TurnsBy}
 use Rattle.hl_crew.specs.Works.{CleansBy, IsLeft, WritesBy, begun}
-use Rattle.hl_crew.proofs.crew.Crew.serve.Given as goal
+use Rattle.hl_crew.proofs.crew.Crew.serve_with.Given as goal
 
 -- what each thread is given, and does
 abbrev pub ghosts-run : goal.ghosts-run
