@@ -1,6 +1,6 @@
 -- What a crew keeps of what it was given, by what its threads and its last rounds did.
 use Rattle.std.proofs.Common.{◌≡◌, ℕ, Bool, true, false, ◌&&◌, List, refl, sym, ap, ◌∙◌, subst}
-use Rattle.std.specs.Prelude.{Result, Ok, Err, IsOk, IfOk, ◌↔◌}
+use Rattle.std.specs.Prelude.{Result, Ok, Err, IsOk, IfOk, IfErr, ◌↔◌}
 use Rattle.hl_model.specs.declared.fault.Fault.{Fault}
 use Rattle.hl_model.specs.Sizes.{Sizes}
 use Rattle.hl_words.specs.States.{RiderState}
@@ -17,7 +17,7 @@ use Rattle.hl_crew.specs.declared.state.CrewState.{CrewState}
 use Rattle.hl_crew.specs.declared.writer.WriterState.{WriterState}
 use Rattle.hl_crew.specs.Goes.{UpTo}
 use Rattle.hl_crew.specs.Riders.{WritesPage, FailsPage, RidersStay, WorksOn, WritesOn, KeepsSwept, SweepsOn, AllWorkOn, AreAsGiven, crew_of, riders_of}
-use Rattle.hl_crew.specs.Rounds.{MakesRound, RoundsIf, HasWorked}
+use Rattle.hl_crew.specs.Rounds.{MakesRound, RoundsIf, HasWorked, HasWorkedInPart}
 use Rattle.hl_crew.specs.Runs.{TurnsBy}
 use Rattle.hl_crew.specs.Works.{WritesBy, CleansBy, begun, counts_of, all_counted, IsLeft}
 use Rattle.hl_crew.proofs.RepeatLaws.{up_to_holds}
@@ -142,6 +142,28 @@ module _ {L W : Type 0} (F : Type 0) (domain : DomainState) (limits : Limits) (l
   worked_if (Ok report) counts are_done done told worked =
       let same : counts ≡ counts_of report = rw (told.0, told.1, told.2) refl in subst (HasWorked F domain limits lets wrote failed failures serves given crew) same (worked (done.0 refl))
   worked_if (Err fault) counts are_done done told worked = tt
+
+  -- a thread was missing, so no last rounds were made
+  pub crew_worked_in_part : (left last : CrewState L W) (a b c d are_done : Bool) → are_done ≡ false → IsLeft (TurnsBy F domain limits serves) (begun given).flusher a left.flusher
+      → IsLeft (WritesBy F domain limits lets wrote failed failures serves) (begun given).first b left.first → IsLeft (WritesBy F domain limits lets wrote failed failures serves) (begun given).second c left.second
+      → IsLeft (CleansBy F domain limits) (begun given).cleaner d left.cleaner → RoundsIf F domain limits lets wrote failed failures (are_done && serves) left last → crew_of last ≡ crew
+      → HasWorkedInPart F domain limits lets wrote failed failures serves given crew
+  crew_worked_in_part left last a b c d false none flusher first second cleaner same is =
+      record { left = left; by_flusher = a; by_first = b; by_second = c; by_cleaner = d; flusher = flusher; first = first; second = second; cleaner = cleaner; is = subst (λ (s : CrewState L W). crew_of s ≡ crew) same is }
+  crew_worked_in_part left last a b c d true none flusher first second cleaner rounds is = absurd cc
+
+  -- a crew is refused only then
+  pub worked_in_part_if : (result : Result CrewReport Fault) (are_done : Bool) → (IsOk result ↔ (are_done ≡ true)) → (are_done ≡ false → HasWorkedInPart F domain limits lets wrote failed failures serves given crew)
+      → IfErr result (λ _. HasWorkedInPart F domain limits lets wrote failed failures serves given crew)
+  worked_in_part_if (Ok report) are_done done worked = tt
+  worked_in_part_if (Err fault) true done worked = absurd (let contrary : false ≡ true = done.1 refl in cc)
+  worked_in_part_if (Err fault) false done worked = worked refl
+
+-- a crew that did nothing
+pub nothing_done : {L W : Type 0} (F : Type 0) (domain : DomainState) (limits : Limits) (lets : ℕ → Type 0) (wrote failed : W → ℕ → List ℕ → W → Type 0) (failures : W → ℕ) (serves : Bool) (given : Crew L W)
+    → HasWorkedInPart F domain limits lets wrote failed failures serves given given
+nothing_done F domain limits lets wrote failed failures serves given =
+    record { left = begun given; by_flusher = false; by_first = false; by_second = false; by_cleaner = false; flusher = refl; first = refl; second = refl; cleaner = refl; is = refl }
 
 -- what stays of some riders stays of what are the same
 pub stays_of : (cuts : Cuts) (sizes : Sizes) (given riders back : List RiderState) → RidersStay cuts sizes given back → given ≡ riders → RidersStay cuts sizes riders back

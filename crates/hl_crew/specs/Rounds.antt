@@ -14,7 +14,7 @@ use Rattle.hl_crew.specs.Pages.{FindsPage}
 use Rattle.hl_crew.specs.Riders.{crew_of, riders_of}
 use Rattle.hl_crew.specs.Runs.{Serves, TurnsBy}
 use Rattle.hl_crew.specs.Turns.{Finds}
-use Rattle.hl_crew.specs.Works.{LooksOn, WritesBy, CleansBy, begun, all_counted}
+use Rattle.hl_crew.specs.Works.{IsLeft, LooksOn, WritesBy, CleansBy, begun, all_counted}
 
 module _ {L W : Type 0} (F : Type 0) (domain : DomainState) (limits : Limits) (lets : ℕ → Type 0)
     (wrote failed : W → ℕ → List ℕ → W → Type 0) (failures : W → ℕ) where
@@ -58,6 +58,22 @@ module _ {L W : Type 0} (F : Type 0) (domain : DomainState) (limits : Limits) (l
     pub rounds : RoundsIf serves left last
     pub is : crew_of last ≡ crew
     pub counts_are : all_counted last ≡ counts
+
+  -- likewise a crew that lacked a thread, or its memory: each of its threads did all its work or nothing, and there were
+  -- no last rounds
+  pub record HasWorkedInPart (serves : Bool) (given crew : Crew L W) : Type 0 where
+    pub left : CrewState L W
+    pub by_flusher : Bool
+    pub by_first : Bool
+    pub by_second : Bool
+    pub by_cleaner : Bool
+    pub flusher : IsLeft (TurnsBy F domain limits serves) (begun given).flusher by_flusher left.flusher
+    pub first : IsLeft (WritesBy F domain limits lets wrote failed failures serves) (begun given).first
+        by_first left.first
+    pub second : IsLeft (WritesBy F domain limits lets wrote failed failures serves) (begun given).second
+        by_second left.second
+    pub cleaner : IsLeft (CleansBy F domain limits) (begun given).cleaner by_cleaner left.cleaner
+    pub is : crew_of left ≡ crew
 
   -- likewise a crew that made a number of turns: its riders and page writers were these, and are those of its end, which
   -- has its counts

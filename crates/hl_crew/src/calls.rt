@@ -2,7 +2,7 @@ ghost use Rattle.std.specs.Prelude.{◌≡◌, ◌≢◌, [], ◌∷◌, Err, tr
 ghost use Rattle.hl_crew.specs.Lags.{IsLag};
 ghost use Rattle.hl_crew.specs.Limited.{duty_cuts, duty_limits, run_cuts, run_limits, is_until};
 ghost use Rattle.hl_crew.specs.Riders.{AreAsGiven, RidersStay, FailsPage, WritesPage, riders_of};
-ghost use Rattle.hl_crew.specs.Rounds.{HasWorked, CountHasWorked};
+ghost use Rattle.hl_crew.specs.Rounds.{HasWorked, HasWorkedInPart, CountHasWorked};
 ghost use Rattle.hl_crew.specs.Works.{AreNamed, begun, counts_of};
 ghost use Rattle.hl_model.specs.declared.fault.Fault.TheVariants.{OutOfMemory, Size};
 
@@ -151,7 +151,8 @@ impl<L: Realm, W> Crew<L, W> {
     /// same holds as there; and by a duty that never cuts they cut no step, if they hadn't. If they had flushed nothing,
     /// then each page that those which come back flushed is with the writer of that rider, as the image of the words that
     /// the rider copied between its take and its answer: at the domain's end it is an image of the page, by `hl_images`.
-    /// Of a page whose write failed, or whose answer was refused, nothing is said.
+    /// Of a page whose write failed, or whose answer was refused, nothing is said. Of a crew that is refused each thread did
+    /// all its work or nothing: so its page writers, too, got pages that were taken alone.
     ///
     /// A thread that has entered a page may wake it by [`Stop::ring`]; a crew that nobody wakes looks at least
     /// every 160 milliseconds, and sooner after it had something to do.
@@ -182,6 +183,9 @@ impl<L: Realm, W> Crew<L, W> {
         ensures works { IfOk result.1 (λ report. HasWorked F domain.now (duty_limits duty) (G.lets gate.now)
             (WritesPage W.has W.wrote) (FailsPage W.has W.failed) W.failures true
             self result.0 (counts_of report)) }
+        ensures in_part { IfErr result.1 (λ _. HasWorkedInPart F domain.now (duty_limits duty)
+            (G.lets gate.now) (WritesPage W.has W.wrote) (FailsPage W.has W.failed) W.failures true
+            self result.0) }
         ensures kept { AreAsGiven W.has (duty_cuts duty.cut_above) true domain.now.sizes
             (riders_of self.riders) result.0 }
     {
@@ -223,6 +227,9 @@ impl<L: Realm, W> Crew<L, W> {
         ensures works { IfOk result.1 (λ report. HasWorked F domain.now (duty_limits duty) (G.lets gate.now)
             (WritesPage W.has W.wrote) (FailsPage W.has W.failed) W.failures true
             self result.0 (counts_of report)) }
+        ensures in_part { IfErr result.1 (λ _. HasWorkedInPart F domain.now (duty_limits duty)
+            (G.lets gate.now) (WritesPage W.has W.wrote) (FailsPage W.has W.failed) W.failures true
+            self result.0) }
         ensures kept { AreAsGiven W.has (duty_cuts duty.cut_above) true domain.now.sizes
             (riders_of self.riders) result.0 }
     {
@@ -268,6 +275,9 @@ impl<L: Realm, W> Crew<L, W> {
         ensures works { IfOk result.1 (λ report. HasWorked F domain.now limits (G.lets gate.now)
             (WritesPage W.has W.wrote) (FailsPage W.has W.failed) W.failures (is_until mode.entry)
             self result.0 (counts_of report)) }
+        ensures in_part { IfErr result.1 (λ _. HasWorkedInPart F domain.now limits (G.lets gate.now)
+            (WritesPage W.has W.wrote) (FailsPage W.has W.failed) W.failures (is_until mode.entry)
+            self result.0) }
         ensures kept { AreAsGiven W.has limits.cuts (is_until mode.entry) domain.now.sizes
             (riders_of self.riders) result.0 }
     {

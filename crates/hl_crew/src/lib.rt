@@ -68,6 +68,7 @@
 //! - Under [`Crew::serve`] each page that a rider flushed is with that rider's page writer, as the image of the words
 //!   that it copied between its take and its answer. By `hl_images` they are the page's at the end.
 //! - A crew that served made its last rounds once its threads had done their work.
+//! - Of a crew that was to serve and was refused each thread did all its work or nothing, and there were no last rounds.
 //!
 //! Inside, of each function that does a step, what it made under the domain's lock, in what order, and what it counted:
 //!
