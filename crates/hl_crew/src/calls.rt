@@ -151,8 +151,8 @@ impl<L: Realm, W> Crew<L, W> {
     /// same holds as there; and by a duty that never cuts they cut no step, if they hadn't. If they had flushed nothing,
     /// then each page that those which come back flushed is with the writer of that rider, as the image of the words that
     /// the rider copied between its take and its answer: at the domain's end it is an image of the page, by `hl_images`.
-    /// Of a page whose write failed, or whose answer was refused, nothing is said. Of a crew that is refused each thread did
-    /// all its work or nothing: so its page writers, too, got pages that were taken alone.
+    /// Of a page whose write failed, or whose answer was refused, nothing is said. Where the crew is refused, each of its
+    /// threads did all its work or nothing: so then, too, a page writer got only images of pages that its rider took.
     ///
     /// A thread that has entered a page may wake it by [`Stop::ring`]; a crew that nobody wakes looks at least
     /// every 160 milliseconds, and sooner after it had something to do.
