@@ -13,7 +13,7 @@ use Rattle.hl.specs.Uses.{CountersEndAsSums}
 use Rattle.example_counters.specs.declared.Counted.{Counted}
 use Rattle.example_counters.specs.Counters.{returns_sums, AreCounted}
 
-pub counted : (sizes : Sizes) (left : Counted) → CountersEndAsSums (λ i. returns_sums) → HaveOneTrace NoJob sizes (λ i. returns_sums) (on_memory left.device) (Ok left.outs) (Ok left.ending)
+pub counted : (sizes : Sizes) (left : Counted) → CountersEndAsSums (λ i. returns_sums) → HaveOneTrace NoJob sizes (λ i. returns_sums) (on_memory left.device) left.outs (Ok left.ending)
     → ((counter : ℕ) → counter < 4 → (read : Option ℕ) × (slice_get left.sums counter ≡ Some read) × IsLeft sizes left.device left.ending counter read) → AreCounted left
 counted sizes left law one reads all are counter less below =
     let t = one all are in

@@ -92,7 +92,7 @@ pub struct Counted {
 /// An add whose call was refused, as where the page of the counters is read-only by then, is in no sum. That an add is
 /// accepted is not proved.
 ///
-/// Faults: `Size` if the opening doesn't fit the duty, `OutOfMemory` if memory or a thread was refused.
+/// Faults: `Size` if the opening doesn't fit the duty, `OutOfMemory` if memory was refused.
 pub fn count<R: Threads + Wait + Sync, S: HasSizes>(
     rt: &R,
     alloc: Global,
@@ -110,8 +110,11 @@ pub fn count<R: Threads + Wait + Sync, S: HasSizes>(
     let work = Adding { adds };
     laws::counters_end_as_sums::<R, _>(&work);
     let closed = with_memory(rt, alloc, opening, duty, &work, device)?;
-    let Written { outs, device } = closed.out;
-    let outs = outs?;
+    let Written {
+        outs,
+        crew: _,
+        device,
+    } = closed.out;
     let Ok(ending) = closed.ending else {
         unreachable!()
     };

@@ -21,7 +21,7 @@ use Rattle.example_records.specs.Records.{is_framed, returns_report, rows_of, Ar
 use Rattle.example_records.proofs.ScanLaws.{first_of, framed_ends}
 use Rattle.example_records.proofs.TellLaws.{row_loads}
 
-module _ (sizes : Sizes) (kept : Kept) (words : List ℕ) (one : HaveOneTrace NoJob sizes (λ _. returns_report) (on_memory kept.device) (Ok kept.reports) (Ok kept.ending)) (append : ThreadsAppend (λ _. returns_report)) (found_by : RecordsAreFoundBy) (are_whole : RecordsAreWhole) (can_scan : RecordsAreScanned NoJob Report)
+module _ (sizes : Sizes) (kept : Kept) (words : List ℕ) (one : HaveOneTrace NoJob sizes (λ _. returns_report) (on_memory kept.device) kept.reports (Ok kept.ending)) (append : ThreadsAppend (λ _. returns_report)) (found_by : RecordsAreFoundBy) (are_whole : RecordsAreWhole) (can_scan : RecordsAreScanned NoJob Report)
     (left : AreLeft sizes kept.device kept.ending words) (scanned : AreScanned words kept.found.items) (reports : List Report) (are : kept.reports.items ≡ map (λ report. Ok report) reports) where
   trace : AreOneTrace NoJob sizes (λ _. returns_report) (on_memory kept.device) reports kept.ending
   trace = one reports are
@@ -55,7 +55,7 @@ module _ (sizes : Sizes) (kept : Kept) (words : List ℕ) (one : HaveOneTrace No
   all_found : AreFound (rows_of kept.found.items) reports (λ report. rows_of report.appended.items)
   all_found = let can = can_scan is_framed sizes kept.device kept.ending words trace.all reports (λ report. rows_of report.appended.items) framed_ends left trace.holds trace.one told in can.1 (rows_of kept.found.items) (scanned told.records can.0)
 
-pub records_kept : (sizes : Sizes) (kept : Kept) (words : List ℕ) → HaveOneTrace NoJob sizes (λ _. returns_report) (on_memory kept.device) (Ok kept.reports) (Ok kept.ending) → ThreadsAppend (λ _. returns_report) → RecordsAreFoundBy → RecordsAreWhole → RecordsAreScanned NoJob Report
+pub records_kept : (sizes : Sizes) (kept : Kept) (words : List ℕ) → HaveOneTrace NoJob sizes (λ _. returns_report) (on_memory kept.device) kept.reports (Ok kept.ending) → ThreadsAppend (λ _. returns_report) → RecordsAreFoundBy → RecordsAreWhole → RecordsAreScanned NoJob Report
     → AreLeft sizes kept.device kept.ending words → AreScanned words kept.found.items → AreKept kept
 records_kept sizes kept words one append found_by are_whole can_scan left scanned = record {
   read = read sizes kept words one append found_by are_whole can_scan left scanned;

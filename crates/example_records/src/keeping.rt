@@ -67,8 +67,11 @@ pub fn keep<R: Threads + Wait + Sync, S: HasSizes>(
     traces::records_are_found_by();
     traces::records_are_whole();
     let closed = with_memory(rt, alloc, opening, duty, &work, device)?;
-    let Written { outs, device } = closed.out;
-    let reports = outs?;
+    let Written {
+        outs: reports,
+        crew: _,
+        device,
+    } = closed.out;
     let Ok(ending) = closed.ending else {
         unreachable!()
     };

@@ -42,6 +42,7 @@ pub fn run<R: Threads + Wait + Sync, W: Write>(
     };
     let store = Store::open(alloc).map_err(|_| Fault::OutOfMemory)?;
     let finished = run_threads(rt, alloc, config, &Counting { store })?;
+    finished.crew?;
     let mut added = [0; COUNTERS];
     for sums in finished.outs {
         added = sum_of(&added, &sums?);

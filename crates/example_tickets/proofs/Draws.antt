@@ -1,5 +1,5 @@
 -- Calls of one list that made one bump each were answered different tickets.
-use Rattle.std.proofs.Common.{◌≡◌, ◌≢◌, ℕ, zero, suc, ◌+◌, ◌<◌, ◌≤◌, Bool, true, false, List, [], ◌∷◌, ◌++◌, map, length, slice_index, slice_index_or, refl, ap, sym, ◌∙◌, subst, arith, append_assoc, length-append, ltb-true, ltb-false, Some, Ok, Err, Result, IfOk, MatchResult, slice_get, Vec, Global}
+use Rattle.std.proofs.Common.{◌≡◌, ◌≢◌, ℕ, zero, suc, ◌+◌, ◌<◌, ◌≤◌, Bool, true, false, List, [], ◌∷◌, ◌++◌, map, length, slice_index, slice_index_or, refl, ap, sym, ◌∙◌, subst, arith, append_assoc, length-append, ltb-true, ltb-false, Some, Ok, Err, Result, IfOk, MatchResult, slice_get}
 use Rattle.std.specs.Prelude.{nat_lt, ◌&&◌, if◌then◌else◌}
 use Rattle.std.specs.List.{AllByRecursion as Every, sum_by}
 use Rattle.std.proofs.lemmas.Bool.{lt-ltb, le-leb}
@@ -22,6 +22,7 @@ use Rattle.hl_keeper.specs.Endings.{EndingState}
 use Rattle.hl_domain.specs.Domains.{DomainState, IsEnding}
 use Rattle.hl.specs.declared.open.Closed.{Closed}
 use Rattle.hl.specs.declared.opening.Opening.{Opening}
+use Rattle.hl.specs.declared.shared.Returned.{Returned}
 use Rattle.hl.specs.Openings.{opened_as}
 use Rattle.hl.specs.Closings.{rider_at, IsClosed, Stood, Tells, AllReturned, AreAllReturned}
 use Rattle.hl.specs.Sessions.{beside_crew}
@@ -184,15 +185,14 @@ module _ {F J : Type 0} (may_cut : Bool) (Took : ℕ → List ℕ → Type 0) (o
       }
 
 -- what the threads' log left
-pub tickets_left : {F : Type 0} (J : Type 0) (may_cut : Bool) (Took : ℕ → List ℕ → Type 0) (o : Opening Sizes) (result : Result (Closed (Result (Vec (Result (Result ℕ Fault) Fault) Global) Fault) F) Fault)
+pub tickets_left : {F : Type 0} (J : Type 0) (may_cut : Bool) (Took : ℕ → List ℕ → Type 0) (o : Opening Sizes) (result : Result (Closed (Returned (Result ℕ Fault)) F) Fault)
     → IfOk result (IsClosed o (AreAllReturned J (opened_as o) may_cut bumps_once Took))
-    → IfOk result (λ drawn. IfOk drawn.out (λ outs. IfOk drawn.ending (λ ending. AreTickets o.riders outs.items ending.snapshot.epoch)))
-tickets_left {F} J may_cut Took o (Ok closed) told = by_parts closed.out closed.ending told.riders told.left told.ending
+    → IfOk result (λ drawn. IfOk drawn.ending (λ ending. AreTickets o.riders drawn.out.outs.items ending.snapshot.epoch))
+tickets_left {F} J may_cut Took o (Ok closed) told = by_ending closed.ending told.riders told.left told.ending
   where
-    by_parts : (out : Result (Vec (Result (Result ℕ Fault) Fault) Global) Fault) (ending : Result (EndingState F) Fault) (riders : List RiderState) → AreAllReturned J (opened_as o) may_cut bumps_once Took out riders
+    by_ending : (ending : Result (EndingState F) Fault) (riders : List RiderState) → AreAllReturned J (opened_as o) may_cut bumps_once Took closed.out riders
         → MatchResult ending (λ ending. (length riders ≡ o.riders) × IsEnding o.params riders ending) (λ fault. (fault ≡ Stranger o.stamp) × (length riders ≢ o.riders))
-        → IfOk out (λ outs. IfOk ending (λ ending. AreTickets o.riders outs.items ending.snapshot.epoch))
-    by_parts (Ok outs) (Ok ending) riders all end = tickets_of may_cut Took o outs.items riders ending all end.1
-    by_parts (Ok outs) (Err fault) riders all end = tt
-    by_parts (Err fault) ending riders all end = tt
+        → IfOk ending (λ ending. AreTickets o.riders closed.out.outs.items ending.snapshot.epoch)
+    by_ending (Ok ending) riders all end = tickets_of may_cut Took o closed.out.outs.items riders ending all end.1
+    by_ending (Err fault) riders all end = tt
 tickets_left J may_cut Took o (Err fault) told = tt

@@ -1,5 +1,5 @@
 -- Two calls of one list, of which the later one's thread saw that there were no fewer steps than after the earlier one.
-use Rattle.std.proofs.Common.{◌≡◌, ◌≢◌, ℕ, suc, ◌+◌, ◌<◌, ◌≤◌, List, [], ◌∷◌, ◌++◌, map, length, slice_index_or, Bool, Option, Some, Ok, Result, IfOk, MatchResult, true, Vec, Global, slice_get, refl, ap, sym, ◌∙◌, subst, arith, length-append}
+use Rattle.std.proofs.Common.{◌≡◌, ◌≢◌, ℕ, suc, ◌+◌, ◌<◌, ◌≤◌, List, [], ◌∷◌, ◌++◌, map, length, slice_index_or, Bool, Option, Some, Ok, Result, IfOk, MatchResult, true, slice_get, refl, ap, sym, ◌∙◌, subst, arith, length-append}
 use Rattle.std.proofs.lemmas.List.{get_or-map, length-map}
 use Rattle.std.proofs.lemmas.Option.{slice_get_within, get_or_from_slice_get, slice_get-get_or}
 use Rattle.hl_model.specs.declared.fault.Fault.{Fault}
@@ -16,6 +16,7 @@ use Rattle.hl_keeper.specs.Endings.{EndingState}
 use Rattle.hl_domain.specs.Domains.{DomainState, IsEnding}
 use Rattle.hl_domain.specs.Told.{LaterCallsBegin}
 use Rattle.hl.specs.declared.opening.Opening.{Opening}
+use Rattle.hl.specs.declared.shared.Returned.{Returned}
 use Rattle.hl.specs.Openings.{opened_as}
 use Rattle.hl.specs.Closings.{rider_at, IsClosed, Stood, Tells, AllReturned, AreAllReturned}
 use Rattle.hl.specs.declared.open.Closed.{Closed}
@@ -127,14 +128,14 @@ module _ {J : Type 0} (may_cut : Bool) (Took : ℕ → List ℕ → Type 0) (o :
       }
 
 -- the same of what `with_threads` returned
-pub turns_left : (may_cut : Bool) (Took : ℕ → List ℕ → Type 0) (o : Opening Sizes) (result : Result (Closed (Result (Vec (Result (Option Answer) Fault) Global) Fault) NoJob) Fault) (closed : Closed (Result (Vec (Result (Option Answer) Fault) Global) Fault) NoJob)
-    (outs : Vec (Result (Option Answer) Fault) Global) (ending : EndingState NoJob) (first second : Answer)
-    → result ≡ Ok closed → closed.out ≡ Ok outs → closed.ending ≡ Ok ending → slice_get outs.items 0 ≡ Some (Ok (Some first)) → slice_get outs.items 1 ≡ Some (Ok (Some second)) → first.steps ≡ second.steps → LaterCallsBegin NoJob
+pub turns_left : (may_cut : Bool) (Took : ℕ → List ℕ → Type 0) (o : Opening Sizes) (result : Result (Closed (Returned (Option Answer)) NoJob) Fault) (closed : Closed (Returned (Option Answer)) NoJob)
+    (ending : EndingState NoJob) (first second : Answer)
+    → result ≡ Ok closed → closed.ending ≡ Ok ending → slice_get closed.out.outs.items 0 ≡ Some (Ok (Some first)) → slice_get closed.out.outs.items 1 ≡ Some (Ok (Some second)) → first.steps ≡ second.steps → LaterCallsBegin NoJob
     → IfOk result (IsClosed o (AreAllReturned NoJob (opened_as o) may_cut answers Took))
     → AreInTurn o (record { first = first.ticket; second = second.ticket; ending = ending })
-turns_left may_cut Took o result closed outs ending first second opened outs_are ending_is at also same law told =
+turns_left may_cut Took o result closed ending first second opened ending_is at also same law told =
     let left : IsClosed o (AreAllReturned NoJob (opened_as o) may_cut answers Took) closed = subst (λ k. IfOk k (IsClosed o (AreAllReturned NoJob (opened_as o) may_cut answers Took))) opened told in
     let riders = left.riders in
-    let all : AllReturned NoJob (opened_as o) may_cut answers Took outs.items riders = subst (λ k. AreAllReturned NoJob (opened_as o) may_cut answers Took k riders) outs_are left.left in
+    let all : AllReturned NoJob (opened_as o) may_cut answers Took closed.out.outs.items riders = left.left in
     let end = subst (λ k. MatchResult k (λ ending. (length riders ≡ o.riders) × IsEnding o.params riders ending) (λ fault. (fault ≡ Stranger o.stamp) × (length riders ≢ o.riders))) ending_is left.ending in
-    in_turn may_cut Took o outs.items riders all ending first second law end.1 at also same
+    in_turn may_cut Took o closed.out.outs.items riders all ending first second law end.1 at also same

@@ -118,7 +118,7 @@ pub fn draw_in_turn<R: Threads + Wait + Sync, S: HasSizes>(
     later_calls_begin::<NoJob>();
     let left = Mutex::new(None);
     let closed = with_threads(rt, alloc, opening, duty, &OneAfterOther { left }).ok()?;
-    let outs = closed.out.ok()?;
+    let outs = closed.out.outs;
     let ending = closed.ending.ok()?;
     let first = answer_of(&outs, 0)?;
     let second = answer_of(&outs, 1)?;

@@ -17,7 +17,8 @@ ghost use Rattle.hl.specs.Closings.{IsClosed, AreAllReturned};
 ghost use Rattle.example_tickets.specs.Tickets.{Bumped, bumps_once, AreTickets};
 
 use hl::{
-    Ask, Closed, Duty, Fault, HasSizes, NoJob, Opening, Outs, Realm, Session, Work, with_threads,
+    Ask, Closed, Duty, Fault, HasSizes, NoJob, Opening, Realm, Returned, Session, Work,
+    with_threads,
 };
 pub use in_turn::{InTurn, draw_in_turn};
 use std::alloc::Global;
@@ -61,7 +62,7 @@ fn bump_once<R: Wait, L: Realm>(session: &mut Session<R, L>) -> Result<u64, Faul
 }
 
 /// What threads left that bumped once each: their answers in the order of their numbers, and what is left of their log.
-pub type Drawn = Closed<Result<Outs<Result<u64, Fault>>, Fault>>;
+pub type Drawn = Closed<Returned<Result<u64, Fault>>>;
 
 /// Opens a log, lets each of its threads bump once beside the crew, and closes it: what they left. Of the threads that
 /// weren't refused no two have the same ticket, whether or not others were.
@@ -79,8 +80,8 @@ pub fn draw<R: Threads + Wait + Sync, S: HasSizes>(
     ensures closed { let o = of_sizes S.sizes_of opening
         in IfOk result (IsClosed o
         (AreAllReturned NoJob (opened_as o) (is_some duty.cut_above) bumps_once (λ _ _. ⊤))) }
-    ensures tickets { IfOk result (λ drawn. IfOk drawn.out (λ outs. IfOk drawn.ending
-        (λ ending. AreTickets opening.riders outs.items ending.snapshot.epoch))) }
+    ensures tickets { IfOk result (λ drawn. IfOk drawn.ending
+        (λ ending. AreTickets opening.riders drawn.out.outs.items ending.snapshot.epoch)) }
 {
     with_threads(rt, alloc, opening, duty, &OneBump)
 }

@@ -1,16 +1,13 @@
 -- What threads returned, in the order of their numbers.
-use Rattle.std.proofs.Common.{◌≡◌, ℕ, zero, suc, ◌+◌, ◌-◌, ◌<◌, ◌≤◌, Bool, true, false, List, [], ◌∷◌, ◌++◌, map, length, slice_index_or, refl, ap, sym, ◌∙◌, subst, subst₂, Option, Some, None, Result, Ok, Err, IsOk, IfOk, IfErr, IfSome, MatchResult, option_map, Vec, vec_len, vec_capacity, arith, ltb-true, ltb-false, inl, inr}
+use Rattle.std.proofs.Common.{◌≡◌, ◌≢◌, ℕ, zero, suc, ◌+◌, ◌-◌, ◌<◌, Bool, true, false, List, [], ◌∷◌, ◌++◌, map, length, slice_index_or, refl, ap, sym, ◌∙◌, subst, subst₂, Option, Some, None, Result, Ok, Err, IsOk, IfSome, MatchResult, arith, ltb-true, ltb-false, inl, inr}
 use Rattle.std.specs.Prelude.{nat_lt, drop, is_some, IfSome}
 use Rattle.std.specs.List.{AllByRecursion}
-use Rattle.std.proofs.Common.{Global}
 use Rattle.std.proofs.lemmas.List.{drop_at, get_or-map, get_or_append_left, get_or-append_right, length-map, length-append}
-use Rattle.std.specs.Iterator.Runs.{CollectsByExtend}
-use Rattle.std.specs.Fn.{FnReturns}
-use Rattle.std.specs.Fork.{GivesJobs}
-use Rattle.std.specs.declared.alloc.AllocError.{AllocError}
+use Rattle.std.specs.Fork.{ChangesAt, ChangesEach}
 use denote.Param.Members.{Shared}
+use denote.Ref.{MutBor}
 use Rattle.hl_model.specs.declared.fault.Fault.{Fault}
-use Rattle.hl_model.specs.declared.fault.Fault.TheVariants.{OutOfMemory}
+use Rattle.hl_model.specs.declared.fault.Fault.TheVariants.{Stranger}
 use Rattle.hl_model.proofs.ListLaws.{all-append}
 use Rattle.hl_history.proofs.Calls.{every_back, every_front}
 use Rattle.hl_words.specs.States.{RiderState, new_rider, new_riders}
@@ -21,26 +18,15 @@ use Rattle.hl_image.specs.Pages.{Pages, image_at}
 use Rattle.hl_images.specs.Kept.{RiderEnters}
 use Rattle.hl_images.specs.Sweeps.{StoresSweep}
 use Rattle.hl_crew.specs.declared.crew.Crew.{Crew}
+use Rattle.hl_crew.specs.declared.crew.CrewRiders.{CrewRiders}
 use Rattle.hl_crew.specs.declared.limits.Cuts.TheVariants.{Never}
 use Rattle.hl_crew.specs.Limited.{duty_cuts}
 use Rattle.hl_crew.specs.Riders.{AreImaged, CutsNone, FlushesNone, MakesCrewSteps, riders_of}
 use Rattle.hl.specs.declared.memory.MemoryDevice.{MemoryDevice}
 use Rattle.hl.specs.Devices.{device_has, has_page, on_memory}
 use Rattle.hl.specs.Sessions.{SessionState, beside_crew}
-use Rattle.hl.specs.Closings.{rider_at, Tells, AreReturned, FlushesTaken, CountReturned, AreCountReturned, AreAllReturned, AreLeft}
-
--- how long a row is that one was put behind
-one_longer : {X : Type 0} (xs : List X) (x : X) (old new : ℕ) → old ≡ length xs → new ≡ old + 1 → new ≡ length (xs ++ (x ∷ []))
-one_longer xs x old new is more = more ∙ ap (λ n. n + 1) is ∙ sym (length-append xs (x ∷ []))
-
--- a row that was extended by one item after another has them all
-pub row_by_items : {X : Type 0} → CollectsByExtend {A = X} {B = Vec X Global} (λ xs v. (v.items ≡ xs) × (vec_len v ≡ length xs)) (λ v xs w. (w.items ≡ v.items ++ xs) × (vec_len w ≡ vec_len v + length xs) × (vec_capacity v ≤ vec_capacity w))
-row_by_items xs v x w was more = (more.0 ∙ ap (λ ys. ys ++ (x ∷ [])) was.0, one_longer xs x _ _ was.1 more.1)
-
--- the item at a place is what stands there, and holds what is said of it
-pub read_at : {X : Type 0} (P : X → Type 0) (at : Option X) (x : X) → option_map (λ y. y) at ≡ Some x → IfSome at P → P x
-read_at P (Some y) x reads holds = let same : y ≡ x = cc in subst P same holds
-read_at P None x reads holds = absurd cc
+use Rattle.hl.specs.declared.opening.Opening.{Opening}
+use Rattle.hl.specs.Closings.{rider_at, Tells, AreReturned, AllReturned, FlushesTaken, CountReturned}
 
 -- the new rider at a place is that of its name
 new_at : (n i : ℕ) (none : RiderState) → i < n → slice_index_or (new_riders n) i none ≡ new_rider i
@@ -79,13 +65,13 @@ at_place P [] i none all within = absurd (omega (arith, within))
 at_place P (x ∷ xs) zero none all within = all.0
 at_place P (x ∷ xs) (suc i) none all within = at_place P xs i none all.1 (omega (arith, within))
 
-all_mapped : (P : RiderState → Type 0) (jobs : List (ℕ × RiderState)) → AllByRecursion P (map (λ job. job.1) jobs) → AllByRecursion (λ job. P job.1) jobs
+all_mapped : {X : Type 0} (P : RiderState → Type 0) (places : List (X × RiderState)) → AllByRecursion P (map (λ place. place.1) places) → AllByRecursion (λ place. P place.1) places
 all_mapped P [] all = tt
-all_mapped P (job ∷ jobs) all = (all.0, all_mapped P jobs all.1)
+all_mapped P (place ∷ places) all = (all.0, all_mapped P places all.1)
 
--- and so of the rider of each job
-pub job_holds : (P : RiderState → Type 0) (jobs : List (ℕ × RiderState)) (olds : List RiderState) → olds ≡ map (λ job. job.1) jobs → AllByRecursion P olds → (i : ℕ) (job : ℕ × RiderState) → i < length jobs → job ≡ slice_index_or jobs i job → P job.1
-job_holds P jobs olds same all i job within is = subst (λ (j : ℕ × RiderState). P j.1) (sym is) (at_place (λ (j : ℕ × RiderState). P j.1) jobs i job (all_mapped P jobs (subst (AllByRecursion P) same all)) within)
+-- and so of the rider at each place
+pub place_holds : {X : Type 0} (P : RiderState → Type 0) (places : List (X × RiderState)) → AllByRecursion P (map (λ place. place.1) places) → (i : ℕ) (place : X × RiderState) → i < length places → place ≡ slice_index_or places i place → P place.1
+place_holds {X} P places all i place within is = subst (λ (p : X × RiderState). P p.1) (sym is) (at_place (λ (p : X × RiderState). P p.1) places i place (all_mapped P places all) within)
 
 -- a new rider stored nothing, and flushed nothing
 pub new_sweeps : (sizes : Sizes) (name : ℕ) → StoresSweep sizes (new_rider name)
@@ -119,23 +105,19 @@ module _ {Out : Type 0} (F : Type 0) (log : DomainState) (may_cut : Bool) (Retur
       subst₂ (λ (x : Result Out Fault) (r : RiderState). Tells F log beside_crew may_cut (Returns i) (olds i) r x)
       (sym (get_or-map (λ x. x.0) pairs i (d, new_rider i) d inside)) (sym (get_or-map (λ x. x.1) pairs i (d, new_rider i) (new_rider i) inside)) (each i (d, new_rider i) inside)
 
-  -- what is left of jobs that carry their own places and riders, where each call returns what is said of its job's
-  pub work_returned : {C : Type 0} (g : Shared C ((ℕ × RiderState) × Unit {0}) (Result Out Fault × RiderState)) (f : C) (jobs : Vec (ℕ × RiderState) Global) (olds : List RiderState) (result : Result (Vec (Result Out Fault × RiderState) Global) AllocError)
-      → olds ≡ map (λ job. job.1) jobs.items → ((i : ℕ) (job : ℕ × RiderState) → i < length jobs.items → (slice_index_or jobs.items i job).0 ≡ i)
-      → ((job : ℕ × RiderState) (one : Result Out Fault × RiderState) → FnReturns g f (job, tt) one → Tells F log beside_crew may_cut (Returns job.0) job.1 one.1 one.0)
-      → IfOk result (λ v. vec_len v ≡ vec_len jobs) → IfOk result (λ v. GivesJobs g f jobs.items v.items)
-      → IfOk result (λ worked. (length worked.items ≡ length olds) × AreReturned F log may_cut Returns (rider_at olds) (map (λ one. one.0) worked.items) (map (λ one. one.1) worked.items))
-  work_returned g f jobs olds (Ok worked) same numbered calls len each =
-      let all : length worked.items ≡ length jobs.items = omega (arith, worked.ok, jobs.ok, len) in (
-        all ∙ sym (ap length same ∙ length-map jobs.items (λ job. job.1)),
-        returned_of (rider_at olds) worked.items (λ i pair within.
-            let inside : i < length jobs.items = subst (λ n. i < n) all within in
-            let gives = (each i pair inside).1 in
-            let place : gives.job.0 ≡ i = sym (ap (λ job. job.0) (gives.job_is gives.job)) ∙ numbered i gives.job inside in
-            let rider : gives.job.1 ≡ rider_at olds i = sym (ap (λ job. job.1) (gives.job_is gives.job)) ∙ sym (get_or-map (λ job. job.1) jobs.items i gives.job (new_rider i) inside) ∙ ap (λ l. rider_at l i) (sym same) in
-            subst₂ (λ (n : ℕ) (r : RiderState). Tells F log beside_crew may_cut (Returns n) r (slice_index_or worked.items i pair).1 (slice_index_or worked.items i pair).0) place rider (calls gives.job _ gives.call)),
-      )
-  work_returned g f jobs olds (Err error) same numbered calls len each = tt
+  -- what is left of places with riders, where each call leaves at its place what is said of it
+  pub work_returned : {C : Type 0} (g : Shared C (ℕ × (MutBor (Result Out Fault × RiderState) × Unit {0})) (Unit {0} × (MutBor (Result Out Fault × RiderState) × Unit {0}))) (f : C) (olds news : List (Result Out Fault × RiderState))
+      → length news ≡ length olds
+      → ((i : ℕ) (old new : Result Out Fault × RiderState) → ChangesAt g f i old new → Tells F log beside_crew may_cut (Returns i) old.1 new.1 new.0)
+      → ChangesEach g f olds news
+      → (length news ≡ length (map (λ place. place.1) olds)) × AreReturned F log may_cut Returns (rider_at (map (λ place. place.1) olds)) (map (λ one. one.0) news) (map (λ one. one.1) news)
+  work_returned g f olds news long calls each = (
+    long ∙ sym (length-map olds (λ place. place.1)),
+    returned_of (rider_at (map (λ place. place.1) olds)) news (λ i pair within.
+        let inside : i < length olds = subst (λ n. i < n) long within in
+        let rider : (slice_index_or olds i pair).1 ≡ rider_at (map (λ place. place.1) olds) i = sym (get_or-map (λ place. place.1) olds i pair (new_rider i) inside) in
+        subst (λ (r : RiderState). Tells F log beside_crew may_cut (Returns i) r (slice_index_or news i pair).1 (slice_index_or news i pair).0) rider (calls i _ _ (each i pair inside).1)),
+  )
 
   -- results and riders of threads whose riders were new, with a crew's riders behind
   pub with_crew : (Took : ℕ → List ℕ → Type 0) (total : ℕ) (all olds crew : List RiderState) (outs : List (Result Out Fault)) (news back : List RiderState)
@@ -164,29 +146,29 @@ pub never_cuts : (above : Option ℕ) → is_some above ≡ false → duty_cuts 
 never_cuts None none = refl
 never_cuts (Some steps) none = absurd cc
 
--- what all threads returned, where the crew served, or why it was refused
-pub gathered : {Out S : Type 0} (F : Type 0) (log : DomainState) (may_cut : Bool) (Returns : ℕ → SessionState → SessionState → Out → Type 0) (Took : ℕ → List ℕ → Type 0) (total : ℕ) (served : Result S Fault) (outs : Result (Vec (Result Out Fault) Global) Fault) (returned : List (Result Out Fault)) (riders : List RiderState)
-    → MatchResult served (λ _. IsOk outs) (λ fault. outs ≡ Err fault) → IfErr served (λ fault. fault ≡ OutOfMemory) → IfOk outs (λ outs. outs.items ≡ returned) → CountReturned F log may_cut Returns Took total returned riders
-    → AreCountReturned F log may_cut Returns Took total outs riders
-gathered F log may_cut Returns Took total served (Ok outs) returned riders told memory are all = subst (λ l. CountReturned F log may_cut Returns Took total l riders) (sym are) all
-gathered F log may_cut Returns Took total (Ok end) (Err fault) returned riders told memory are all = absurd (let e : false ≡ true = told in cc)
-gathered F log may_cut Returns Took total (Err refused) (Err fault) returned riders told memory are all =
-    let same : fault ≡ refused = cc told in
-    same ∙ memory
+-- how many riders there are in places, and with a crew's
+pub places_count : {X L : Type 0} (places : List (X × RiderState)) (crew : CrewRiders L) → length (map (λ place. place.1) places ++ riders_of crew) ≡ length places + 4
+places_count places crew = length-append (map (λ place. place.1) places) (riders_of crew) ∙ ap (λ n. n + 4) (length-map places (λ place. place.1))
 
 -- what is known of one log and so many riders is known of what is the same
-pub all_of_same : {Out : Type 0} (F : Type 0) (log other : DomainState) (may_cut : Bool) (Returns : ℕ → SessionState → SessionState → Out → Type 0) (Took : ℕ → List ℕ → Type 0) (total many : ℕ) (outs : Result (Vec (Result Out Fault) Global) Fault) (riders : List RiderState) → log ≡ other → total ≡ many → AreCountReturned F log may_cut Returns Took total outs riders → AreCountReturned F other may_cut Returns Took many outs riders
-all_of_same F log other may_cut Returns Took total many outs riders same count known = subst₂ (λ l n. AreCountReturned F l may_cut Returns Took n outs riders) same count known
+pub all_of_same : {Out : Type 0} (F : Type 0) (log other : DomainState) (may_cut : Bool) (Returns : ℕ → SessionState → SessionState → Out → Type 0) (Took : ℕ → List ℕ → Type 0) (total many : ℕ) (outs : List (Result Out Fault)) (riders : List RiderState) → log ≡ other → total ≡ many → CountReturned F log may_cut Returns Took total outs riders → CountReturned F other may_cut Returns Took many outs riders
+all_of_same F log other may_cut Returns Took total many outs riders same count known = subst₂ (λ l n. CountReturned F l may_cut Returns Took n outs riders) same count known
 
 -- what is left without a device in memory, and with one
-pub left_without : {Out : Type 0} (F : Type 0) (log : DomainState) (may_cut : Bool) (Returns : ℕ → SessionState → SessionState → Out → Type 0) (Took : ℕ → List ℕ → Type 0) (total : ℕ) (outs : Result (Vec (Result Out Fault) Global) Fault) (device : Option MemoryDevice) (riders : List RiderState)
-    → is_some device ≡ false → AreLeft F log may_cut Returns Took total (outs, device) riders → AreCountReturned F log may_cut Returns Took total outs riders
+pub left_without : {Out : Type 0} (F : Type 0) (log : DomainState) (may_cut : Bool) (Returns : ℕ → SessionState → SessionState → Out → Type 0) (Took : ℕ → List ℕ → Type 0) (total : ℕ) (outs : List (Result Out Fault)) (device : Option MemoryDevice) (riders : List RiderState)
+    → is_some device ≡ false → CountReturned F log may_cut Returns (device_has Took device) total outs riders → CountReturned F log may_cut Returns Took total outs riders
 left_without F log may_cut Returns Took total outs None riders none left = left
 left_without F log may_cut Returns Took total outs (Some d) riders none left = absurd cc
 
-pub left_with : {Out : Type 0} (F : Type 0) (log : DomainState) (may_cut : Bool) (Returns : ℕ → SessionState → SessionState → Out → Type 0) (Took : ℕ → List ℕ → Type 0) (outs : Result (Vec (Result Out Fault) Global) Fault) (device : Option MemoryDevice) (d : MemoryDevice) (riders : List RiderState)
-    → device ≡ Some d → AreLeft F log may_cut Returns Took log.riders (outs, device) riders → AreAllReturned F log may_cut Returns (on_memory d) outs riders
-left_with F log may_cut Returns Took outs device d riders is left = subst (λ (o : Option MemoryDevice). AreAllReturned F log may_cut Returns (device_has Took o) outs riders) is left
+pub left_with : {Out : Type 0} (F : Type 0) (log : DomainState) (may_cut : Bool) (Returns : ℕ → SessionState → SessionState → Out → Type 0) (Took : ℕ → List ℕ → Type 0) (outs : List (Result Out Fault)) (device : Option MemoryDevice) (d : MemoryDevice) (riders : List RiderState)
+    → device ≡ Some d → AllReturned F log may_cut Returns (device_has Took device) outs riders → AllReturned F log may_cut Returns (on_memory d) outs riders
+left_with F log may_cut Returns Took outs device d riders is left = subst (λ (o : Option MemoryDevice). AllReturned F log may_cut Returns (device_has Took o) outs riders) is left
+
+-- all riders are there, so the log was closed
+pub ending_stands : {E : Type 0} (o : Opening Sizes) (ending : Result E Fault) (riders : List RiderState) (Ends : E → Type 0)
+    → length riders ≡ o.riders → MatchResult ending (λ ending. (length riders ≡ o.riders) × Ends ending) (λ fault. (fault ≡ Stranger o.stamp) × (length riders ≢ o.riders)) → IsOk ending
+ending_stands o (Ok ending) riders Ends all told = refl
+ending_stands o (Err fault) riders Ends all told = absurd (told.1 all)
 
 -- the pages that a crew flushed by page writers of one kind, of which this is left
 pub sinks_taken : {L W P : Type 0} (Took : P → ℕ → List ℕ → Type 0) (work : P) (named : Option P) (memory : W → Option Pages) (sizes : Sizes) (crew : Crew L W) (device : Option MemoryDevice)

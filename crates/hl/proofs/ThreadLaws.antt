@@ -31,7 +31,7 @@ use Rattle.hl_traces.specs.Traces.{placed_by, places, trace, RiderTraces}
 use Rattle.hl_traces.proofs.OneLaws.{traces_are_one}
 use Rattle.hl_crew.specs.Riders.{has_flushed, is_crew_step, MakesCrewSteps}
 use Rattle.hl.specs.declared.opening.Opening.{Opening}
-use Rattle.hl.specs.Closings.{rider_at, AllReturned, AreAllReturned, CountReturned, FlushesTaken, Stood, Tells}
+use Rattle.hl.specs.Closings.{rider_at, AllReturned, CountReturned, FlushesTaken, Stood, Tells}
 use Rattle.hl.specs.Openings.{opened_as}
 use Rattle.hl.specs.Sessions.{Beside, SessionState, beside_crew}
 use Rattle.hl.specs.Threads.{ThreadActs, HoldsTrace, AreOneTrace, ThreadsAreOne, HaveOneTrace}
@@ -206,11 +206,10 @@ pub threads_are_one : {Out : Type 0} (F : Type 0) (Returns : ℕ → SessionStat
 threads_are_one F Returns Took log may_cut outs riders ending page_some frames_some r ends = are_one F Returns Took log may_cut outs riders ending page_some frames_some r ends
 
 -- so it is with what a log's threads left that was closed
-pub closed_trace : {Out : Type 0} (F : Type 0) (o : Opening Sizes) (may_cut : Bool) (Returns : ℕ → SessionState → SessionState → Out → Type 0) (Took : ℕ → List ℕ → Type 0) (riders : List RiderState) (results : Result (Vec (Result Out Fault) Global) Fault) (ending : Result (EndingState F) Fault) → AreInRange o.params
-    → AreAllReturned F (opened_as o) may_cut Returns Took results riders
+pub closed_trace : {Out : Type 0} (F : Type 0) (o : Opening Sizes) (may_cut : Bool) (Returns : ℕ → SessionState → SessionState → Out → Type 0) (Took : ℕ → List ℕ → Type 0) (riders : List RiderState) (results : Vec (Result Out Fault) Global) (ending : Result (EndingState F) Fault) → AreInRange o.params
+    → AllReturned F (opened_as o) may_cut Returns Took results.items riders
     → MatchResult ending (λ ending. (length riders ≡ o.riders) × IsEnding o.params riders ending) (λ fault. (fault ≡ Stranger o.stamp) × (length riders ≢ o.riders))
     → HaveOneTrace F o.params Returns Took results ending
-closed_trace F o may_cut Returns Took riders (Ok results) (Ok ending) range all ends = λ outs are.
+closed_trace F o may_cut Returns Took riders results (Ok ending) range all ends = λ outs are.
     threads_are_one F Returns Took (opened_as o) may_cut outs riders ending (omega (arith, range.page_size_least)) (omega (arith, range.frames_least)) (subst (λ l. AllReturned F (opened_as o) may_cut Returns Took l riders) are all) ends.1
-closed_trace F o may_cut Returns Took riders (Ok results) (Err fault) range all ends = tt
-closed_trace F o may_cut Returns Took riders (Err fault) ending range all ends = tt
+closed_trace F o may_cut Returns Took riders results (Err fault) range all ends = tt

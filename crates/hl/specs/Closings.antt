@@ -1,7 +1,6 @@
 -- What is left of a log that was opened and closed by one call.
-use Rattle.std.specs.Prelude.{⊤, ◌≡◌, ◌≢◌, ◌<◌, ◌+◌, ◌⊎◌, ℕ, Bool, true, false, Option, Result, Ok, Err, IfOk, IfErr, MatchResult, List, ◌∷◌, length, map, drop, slice_index_or, Vec}
+use Rattle.std.specs.Prelude.{⊤, ◌≡◌, ◌≢◌, ◌<◌, ◌+◌, ◌⊎◌, ℕ, Bool, true, false, Option, Result, Ok, Err, IfOk, IfErr, MatchResult, List, ◌∷◌, length, map, drop, slice_index_or}
 use Rattle.std.specs.List.{AllByRecursion}
-use Rattle.std.specs.declared.alloc.Global.{Global}
 use Rattle.hl_model.specs.declared.fault.Fault.{Fault}
 use Rattle.hl_model.specs.declared.fault.Fault.TheVariants.{OutOfMemory, Stranger}
 use Rattle.hl_model.specs.Sizes.{Sizes}
@@ -26,6 +25,7 @@ use Rattle.hl.specs.declared.opening.Opening.{Opening}
 use Rattle.hl.specs.declared.memory.MemoryDevice.{MemoryDevice}
 use Rattle.hl.specs.declared.memory.Written.{Written}
 use Rattle.hl.specs.declared.refused.Refused.{Refused}
+use Rattle.hl.specs.declared.shared.Returned.{Returned}
 use Rattle.hl.specs.Devices.{device_has, on_memory}
 use Rattle.hl.specs.Openings.{was_refused}
 use Rattle.hl.specs.Leaves.{LeftByTries}
@@ -149,29 +149,27 @@ abbrev pub AllReturned : {Out : Type 0} → (F : Type 0) → DomainState → Boo
 AllReturned F log may_cut Returns Took outs riders =
     CountReturned F log may_cut Returns Took log.riders outs riders
 
--- so it is of so many, or memory or a thread was refused once the threads had begun
-abbrev pub AreCountReturned : {Out : Type 0} → (F : Type 0) → DomainState → Bool
-    → (ℕ → SessionState → SessionState → Out → Type 0) → (ℕ → List ℕ → Type 0) → ℕ
-    → Result (Vec (Result Out Fault) Global) Fault → List RiderState → Type 0
-AreCountReturned F log may_cut Returns Took count outs riders = MatchResult outs
-    (λ outs. CountReturned F log may_cut Returns Took count outs.items riders) (λ fault. fault ≡ OutOfMemory)
-
--- so it is of all riders of the log
+-- so it is of what the threads of a log returned, and of all its riders
 abbrev pub AreAllReturned : {Out : Type 0} → (F : Type 0) → DomainState → Bool
     → (ℕ → SessionState → SessionState → Out → Type 0) → (ℕ → List ℕ → Type 0)
-    → Result (Vec (Result Out Fault) Global) Fault → List RiderState → Type 0
-AreAllReturned F log may_cut Returns Took outs riders =
-    AreCountReturned F log may_cut Returns Took log.riders outs riders
+    → Returned Out → List RiderState → Type 0
+AreAllReturned F log may_cut Returns Took returned riders =
+    AllReturned F log may_cut Returns Took returned.outs.items riders
 
 -- the same of what was written: the device has the pages that the crew flushed
 abbrev pub AreWritten : {Out : Type 0} → (F : Type 0) → DomainState → Bool
     → (ℕ → SessionState → SessionState → Out → Type 0) → Written Out → List RiderState → Type 0
 AreWritten F log may_cut Returns written riders =
-    AreAllReturned F log may_cut Returns (on_memory written.device) written.outs riders
+    AllReturned F log may_cut Returns (on_memory written.device) written.outs.items riders
 
 -- the same of what so many riders left: the device in memory has such a page, or this holds, if there is none
 abbrev pub AreLeft : {Out : Type 0} → (F : Type 0) → DomainState → Bool
     → (ℕ → SessionState → SessionState → Out → Type 0) → (ℕ → List ℕ → Type 0) → ℕ
-    → Result (Vec (Result Out Fault) Global) Fault × Option MemoryDevice → List RiderState → Type 0
+    → Returned Out × Option MemoryDevice → List RiderState → Type 0
 AreLeft F log may_cut Returns Took count left riders =
-    AreCountReturned F log may_cut Returns (device_has Took left.1) count left.0 riders
+    CountReturned F log may_cut Returns (device_has Took left.1) count left.0.outs.items riders
+
+-- what a crew of this duty did within its limits is told, or that a thread of it couldn't be made
+abbrev pub TellsCrew : Duty → Result CrewReport Fault → Type 0
+TellsCrew duty told =
+    MatchResult told (λ report. report.limits ≡ duty_limits duty) (λ fault. fault ≡ OutOfMemory)

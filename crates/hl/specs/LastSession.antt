@@ -4,6 +4,7 @@ use Rattle.hl_model.specs.declared.fault.Fault.{Fault}
 use Rattle.hl_model.specs.declared.fault.Fault.TheVariants.{OutOfMemory}
 use Rattle.hl_model.specs.Sizes.{Sizes}
 use Rattle.hl_words.specs.States.{RiderState, new_rider}
+use Rattle.hl_keeper.specs.Endings.{EndingState}
 use Rattle.hl_domain.specs.Domains.{DomainState, IsEnding}
 use Rattle.hl_crew.specs.declared.limits.Cuts.{Cuts}
 use Rattle.hl.specs.declared.finished.Finished.{Finished}
@@ -27,10 +28,10 @@ Finishing Finishes old new out = MatchOption out (new ≡ old) (Finishes old new
 -- leave may cut. The log was then closed with it behind the others
 pub record IsFinish {Out : Type 0} (F : Type 0) (log : DomainState) (cuts : Cuts)
     (Finishes : SessionState → SessionState → Out → Type 0)
-    (riders : List RiderState) (old : RiderState) (finished : Finished Out F) : Type 0 where
+    (riders : List RiderState) (old : RiderState) (out : Option Out) (left : EndingState F) : Type 0 where
   pub last : RiderState
-  pub finish : Stood F log (without_crew cuts) true (Finishing Finishes) old (Ok last) finished.last
-  pub ending : IsEnding log.sizes (riders ++ last ∷ []) finished.ending
+  pub finish : Stood F log (without_crew cuts) true (Finishing Finishes) old (Ok last) out
+  pub ending : IsEnding log.sizes (riders ++ last ∷ []) left
 
 -- this rider was refused a session of the log to finish in, or couldn't leave it
 pub record IsNoFinish {Out : Type 0} (F : Type 0) (log : DomainState) (cuts : Cuts)
@@ -49,7 +50,8 @@ module _ {Out : Type 0} (F : Type 0) (o : Opening Sizes) (cuts : Cuts)
     pub riders : List RiderState
     pub returned : CountReturned F (opened_as o) true Returns Took count
         (map (λ out. Ok out) finished.outs.items) riders
-    pub finish : IsFinish F (opened_as o) cuts Finishes riders (new_rider count) finished
+    pub finish : IsFinish F (opened_as o) cuts Finishes riders (new_rider count)
+        finished.last finished.ending
 
   -- of the threads' results the first that is a fault is this one
   pub record ThreadFailed (fault : Fault) : Type 0 where
@@ -69,6 +71,10 @@ module _ {Out : Type 0} (F : Type 0) (o : Opening Sizes) (cuts : Cuts)
     pub returned : CountReturned F (opened_as o) true Returns Took count (map (λ out. Ok out) outs) riders
     pub failed : IsNoFinish F (opened_as o) cuts Finishes (new_rider count) fault
 
-  -- why a log whose threads ran has no result: memory or a thread was refused; or one of these
+  -- why a log whose threads ran has no result: one of the threads has none, or the last rider couldn't finish
+  abbrev pub HasFailed : Fault → Type 0
+  HasFailed fault = ThreadFailed fault ⊎ FinishFailed fault
+
+  -- why there is none: memory was refused before the threads ran; or so
   abbrev pub IsUnfinished : Fault → Type 0
-  IsUnfinished fault = (fault ≡ OutOfMemory) ⊎ (ThreadFailed fault ⊎ FinishFailed fault)
+  IsUnfinished fault = (fault ≡ OutOfMemory) ⊎ HasFailed fault

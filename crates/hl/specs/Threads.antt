@@ -61,13 +61,13 @@ ThreadsAreOne {Out} F Returns Took = (log : DomainState) (may_cut : Bool) (outs 
     → AllReturned F log may_cut Returns Took (map (λ out. Ok out) outs) riders
     → IsEnding log.sizes riders ending → AreOneTrace F log.sizes Returns Took outs ending
 
--- if results and ending are there, and each thread returned a value, all that they did is one trace
+-- if each thread returned a value, and the ending is there, all that they did is one trace
 abbrev pub HaveOneTrace : {Out : Type 0} → (F : Type 0) → Sizes
     → (ℕ → SessionState → SessionState → Out → Type 0) → (ℕ → List ℕ → Type 0)
-    → Result (Vec (Result Out Fault) Global) Fault → Result (EndingState F) Fault → Type 0
-HaveOneTrace {Out} F sizes Returns Took results ending = IfOk results (λ results. IfOk ending (λ ending.
+    → Vec (Result Out Fault) Global → Result (EndingState F) Fault → Type 0
+HaveOneTrace {Out} F sizes Returns Took results ending = IfOk ending (λ ending.
     (outs : List Out) → results.items ≡ map (λ out. Ok out) outs
-    → AreOneTrace F sizes Returns Took outs ending))
+    → AreOneTrace F sizes Returns Took outs ending)
 
 -- The same with the session that finished: its acts stand under the number behind those of the threads
 pub record FinishedTrace {Out F : Type 0} (sizes : Sizes)

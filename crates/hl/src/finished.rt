@@ -1,13 +1,14 @@
 //! A log that threads use beside a crew, and one session more, opened and closed by one call, with one result.
-ghost use Rattle.std.specs.Prelude.{◌≡◌, ◌+◌, ◌<◌, ◌≤◌, [], length, map, vec_len, vec_capacity, true, false, Ok, Err, is_some, IfOk, MatchResult};
-ghost use Rattle.hl_model.specs.declared.fault.Fault.TheVariants.{Size};
-ghost use Rattle.hl_words.specs.States.{IsSeedOf};
+ghost use Rattle.std.specs.Prelude.{◌≡◌, ◌++◌, ◌+◌, ◌∷◌, ◌<◌, ◌≤◌, [], length, map, vec_len, vec_capacity, true, false, Ok, Err, is_some, IfOk, MatchResult};
+ghost use Rattle.hl_model.specs.declared.fault.Fault.TheVariants.{OutOfMemory, Size};
+ghost use Rattle.hl_words.specs.States.{IsSeedOf, new_riders};
 ghost use Rattle.hl_traces.specs.Traces.{RiderTraces};
 ghost use Rattle.hl_crew.specs.Limited.{duty_cuts};
-ghost use Rattle.hl.specs.Closings.{Tells};
+ghost use Rattle.hl_crew.specs.Riders.{riders_of};
+ghost use Rattle.hl.specs.Closings.{Tells, TellsCrew};
 ghost use Rattle.hl.specs.Configs.{all_fit, cuts_of, opening_of, sizes_of_config};
-ghost use Rattle.hl.specs.LastSession.{AreFinished, Finishing, IsFinish, IsFirstFault, IsNoFinish, IsUnfinished};
-ghost use Rattle.hl.specs.Openings.{IsInRange};
+ghost use Rattle.hl.specs.LastSession.{AreFinished, Finishing, HasFailed, IsFinish, IsFirstFault, IsNoFinish, IsUnfinished};
+ghost use Rattle.hl.specs.Openings.{opened_as, IsInRange};
 ghost use Rattle.hl.specs.Sessions.{without_crew};
 ghost use Rattle.hl.specs.Threads.{FinishedTrace};
 
@@ -15,12 +16,14 @@ use crate::config::Config;
 use crate::log::Log;
 use crate::opening::Opening;
 use crate::refused::Refused;
+use crate::rows::LastRows;
 use crate::session::{Beside, Session};
-use crate::shared::{Outs, Shared};
+use crate::shared::{Outs, Returned, Shared};
 use crate::work::Work;
 use hl_action::{AnyAnswer, NoJob, Task};
+use hl_crew::CrewReport;
 use hl_domain::Ending;
-use hl_model::{Fault, Sizes, with_room};
+use hl_model::{Fault, Sizes};
 use hl_words::{Realm, Rider, Seed};
 use std::alloc::Global;
 use std::marker::Brand;
@@ -34,6 +37,8 @@ pub struct Finished<T, F: Task = NoJob> {
     pub outs: Vec<T>,
     /// What [`Work::finish`](crate::Work::finish) returned.
     pub last: Option<T>,
+    /// What the crew did, as in [`Returned`](crate::Returned).
+    pub crew: Result<CrewReport, Fault>,
     /// What is left of the log.
     pub ending: Ending<F, AnyAnswer>,
 }
@@ -45,7 +50,7 @@ pub struct Finished<T, F: Task = NoJob> {
 /// `finish` stand under the number behind those of the threads (`FinishedTrace`).
 ///
 /// Faults, the first of these: `Size` if a number of the configuration is out of its range, and nothing was done;
-/// `OutOfMemory` if memory or a thread was refused, before the threads ran or after; the fault by which the first of
+/// `OutOfMemory` if memory was refused, before the threads ran: all is taken before; the fault by which the first of
 /// the threads that have no result was refused its session, or couldn't leave it (`JournalFull` at each of 1,001 tries,
 /// with a cut between two); and that of the session of `finish`. After a fault nothing is left of the log: if its ending
 /// is wanted all the same, take `with_threads`.
@@ -61,6 +66,10 @@ pub fn run_threads<R: Threads + Wait + Sync, P: Work<R> + Sync>(
         (P.finishes work.now))
         (IsUnfinished P.Job (opening_of config) (cuts_of config) (P.returns work.now) (P.took work.now)
         (P.finishes work.now)) }
+    ensures crew { IfOk result (λ finished. MatchResult finished.crew
+        (λ report. (report.limits.mutable ≡ config.mutable) × (report.limits.resident ≡ config.resident)
+        × (report.limits.cuts ≡ cuts_of config))
+        (λ fault. fault ≡ OutOfMemory)) }
     ensures one { all_fit config ≡ true → IfOk result (FinishedTrace (sizes_of_config config)
         (P.returns work.now) (P.took work.now) (P.finishes work.now)) }
 {
@@ -94,13 +103,14 @@ fn run_over<L: Realm + Send + Sync, R: Threads + Wait + Sync, P: Work<R> + Sync>
     requires five { 5 ≤ opening.riders }
     requires duty { shared.now.duty.frames ≡ opening.params.frames }
     requires cuts { is_some shared.now.duty.cut_above ≡ true }
+    ensures crew { IfOk result (λ finished. TellsCrew shared.now.duty finished.crew) }
     ensures finished { MatchResult result
         (AreFinished P.Job opening (duty_cuts shared.now.duty.cut_above) (P.returns shared.now.work.now)
         (P.took shared.now.work.now) (P.finishes shared.now.work.now))
         (IsUnfinished P.Job opening (duty_cuts shared.now.duty.cut_above) (P.returns shared.now.work.now)
         (P.took shared.now.work.now) (P.finishes shared.now.work.now)) }
 {
-    let (log, mut riders) = match Log::<L, P::Job>::open(
+    let (log, riders) = match Log::<L, P::Job>::open(
         shared.alloc,
         seed,
         opening.journal,
@@ -109,26 +119,47 @@ fn run_over<L: Realm + Send + Sync, R: Threads + Wait + Sync, P: Work<R> + Sync>
         Ok(opened) => opened,
         Err(fault) => return Err(fault),
     };
-    let Some(last) = riders.pop() else {
-        unreachable!()
-    };
-    let ((outs, _device), mut riders) = shared.run_all(&log, riders, None);
-    let outs = match outs {
-        Ok(outs) => outs,
-        Err(fault) => return Err(fault),
-    };
-    let room = match with_room(shared.alloc, outs.len() as u64) {
-        Ok(room) => room,
-        Err(fault) => return Err(fault),
-    };
-    let outs = match all_of(room, outs) {
-        Ok(outs) => outs,
-        Err(fault) => return Err(fault),
-    };
-    if riders.reserve(1).is_err() {
-        return Err(Fault::OutOfMemory);
+    match LastRows::open(shared.alloc, &log, riders) {
+        Ok(rows) => run_in(shared, log, rows, opening),
+        Err(fault) => Err(fault),
     }
-    finish_log(shared, log, riders, last, outs)
+}
+
+// The same in rows that are there: each result is told, whatever memory does.
+fn run_in<L: Realm + Send + Sync, R: Threads + Wait + Sync, P: Work<R> + Sync>(
+    shared: &Shared<'_, R, P>,
+    log: Log<L, P::Job>,
+    rows: LastRows<L, P::Out>,
+    opening: Opening<Sizes>,
+) -> Result<Finished<P::Out, P::Job>, Fault>
+    requires log { log ≡ opened_as opening }
+    requires all { (map (λ place. place.1) rows.rows.places.items
+        ++ riders_of rows.rows.crew.riders) ++ rows.last ∷ [] ≡ new_riders opening.riders }
+    requires duty { shared.now.duty.frames ≡ opening.params.frames }
+    requires cuts { is_some shared.now.duty.cut_above ≡ true }
+    ensures crew { IfOk result (λ finished. TellsCrew shared.now.duty finished.crew) }
+    ensures finished { MatchResult result
+        (AreFinished P.Job opening (duty_cuts shared.now.duty.cut_above) (P.returns shared.now.work.now)
+        (P.took shared.now.work.now) (P.finishes shared.now.work.now))
+        (HasFailed P.Job opening (duty_cuts shared.now.duty.cut_above) (P.returns shared.now.work.now)
+        (P.took shared.now.work.now) (P.finishes shared.now.work.now)) }
+{
+    let LastRows { rows, last, all } = rows;
+    let ((returned, _device), riders) = shared.run_all(&log, rows, None);
+    let Returned { outs, crew } = returned;
+    let outs = match all_of(all, outs) {
+        Ok(outs) => outs,
+        Err(fault) => return Err(fault),
+    };
+    match finish_log(shared, log, riders, last) {
+        Ok((last, ending)) => Ok(Finished {
+            outs,
+            last,
+            crew,
+            ending,
+        }),
+        Err(fault) => Err(fault),
+    }
 }
 
 // What all threads returned, put into an empty row with room for it; or the first fault among their results.
@@ -151,15 +182,13 @@ fn finish_log<L: Realm + Send + Sync, R: Wait, P: Work<R>>(
     log: Log<L, P::Job>,
     mut riders: Vec<Rider<L>>,
     last: Rider<L>,
-    outs: Vec<P::Out>,
-) -> Result<Finished<P::Out, P::Job>, Fault>
+) -> Result<(Option<P::Out>, Ending<P::Job, AnyAnswer>), Fault>
     requires all { length riders.items + 1 ≡ log.riders }
     requires room { vec_len riders < vec_capacity riders }
     requires enters { RiderTraces log.sizes last }
     ensures closed { MatchResult result
-        (λ finished. (finished.outs ≡ outs)
-        × IsFinish P.Job log (duty_cuts shared.now.duty.cut_above) (P.finishes shared.now.work.now)
-        riders.items last finished)
+        (λ left. IsFinish P.Job log (duty_cuts shared.now.duty.cut_above) (P.finishes shared.now.work.now)
+        riders.items last left.0 left.1)
         (IsNoFinish P.Job log (duty_cuts shared.now.duty.cut_above) (P.finishes shared.now.work.now) last) }
 {
     let (done, rider) = finish_one(shared, &log, last);
@@ -171,7 +200,7 @@ fn finish_log<L: Realm + Send + Sync, R: Wait, P: Work<R>>(
     let Ok(ending) = log.close(riders) else {
         unreachable!()
     };
-    Ok(Finished { outs, last, ending })
+    Ok((last, ending))
 }
 
 // The session that finishes: it cuts the journal as the crew did, and is left by tries, since the duty of such a log

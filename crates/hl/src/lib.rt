@@ -38,6 +38,7 @@ mod opening;
 mod part;
 mod refused;
 mod reports;
+mod rows;
 mod session;
 mod shared;
 mod sink;
@@ -63,7 +64,8 @@ pub use hl_action::Task;
 pub use hl_counts::CountTable;
 /// Four riders and two page writers, which serve a log until its [`Stop`] is given.
 pub use hl_crew::{
-    Crew, CrewEnd, CrewReport, CrewRiders, Cuts, Duty, Gate, Limits, OpenGate, Taken, run_crew,
+    Crew, CrewBuffers, CrewEnd, CrewReport, CrewRiders, Cuts, Duty, Gate, Limits, OpenGate, Taken,
+    run_crew,
 };
 /// What ends a crew, and wakes it.
 pub use hl_crew::Stop;
@@ -80,7 +82,8 @@ pub use hl_drain::Ask;
 pub use hl_epoch::{Epochs, ScanTable};
 pub use hl_image::{HexWriter, MemoryWriter, PageWriter};
 pub use hl_laws::Base;
-pub use hl_model::{HasSizes, Params, RawSizes, Sizes, Step};
+/// The cell in which the word of an address lies; the page that it is on.
+pub use hl_model::{HasSizes, Params, RawSizes, Sizes, Step, cell_of, page_of};
 /// Why a call was refused, by its number.
 pub use hl_model::Fault;
 /// What a done answers: a job's tag, or the offset that was moved.
@@ -92,6 +95,8 @@ pub use hl_model::Snapshot;
 /// The read-only offset, the head and the tail that a session saw.
 pub use hl_model::View;
 pub use hl_words::{OffsetWords, Realm, RiderView, Seed, Touch, Words};
+/// What the words of a closed log hold, by their cells ([`cell_of`]).
+pub use hl_words::LastWords;
 /// What a session did up to a moment, to be told to another.
 pub use hl_words::Past;
 /// A thread's right to act.
@@ -105,6 +110,6 @@ pub use part::Part;
 pub use refused::Refused;
 pub use reports::report;
 pub use session::{Away, Curable, Cure, Helped, Helping, Napped, Resting, Session, attempt};
-pub use shared::Outs;
+pub use shared::{Outs, Returned};
 pub use threads::with_threads;
 pub use work::Work;

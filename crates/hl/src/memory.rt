@@ -1,9 +1,9 @@
 //! A log with threads whose device is memory.
-ghost use Rattle.std.specs.Prelude.{◌≡◌, ◌⊎◌, ℕ, List, true, false, Some, None, is_some, is_none, Err, IfOk, IfErr, IfSome};
+ghost use Rattle.std.specs.Prelude.{◌≡◌, ◌⊎◌, ℕ, List, true, false, Some, None, is_some, is_none, Err, IsOk, IfOk, IfErr, IfSome};
 ghost use Rattle.std.specs.Option.{option_copied};
 ghost use Rattle.hl_model.specs.declared.fault.Fault.TheVariants.{OutOfMemory, Size};
 ghost use Rattle.hl_image.specs.Pages.{image_at, opened};
-ghost use Rattle.hl.specs.Closings.{AreWritten, IsClosed};
+ghost use Rattle.hl.specs.Closings.{AreWritten, IsClosed, TellsCrew};
 ghost use Rattle.hl.specs.Crews.{can_run};
 ghost use Rattle.hl.specs.Devices.{on_memory, Differs};
 ghost use Rattle.hl.specs.Openings.{of_sizes, opened_as};
@@ -11,9 +11,9 @@ ghost use Rattle.hl.specs.Threads.{HaveOneTrace};
 
 use crate::open::Closed;
 use crate::opening::Opening;
-use crate::shared::{Outs, Shared};
+use crate::shared::{Outs, Returned, Shared};
 use crate::work::Work;
-use hl_crew::Duty;
+use hl_crew::{CrewReport, Duty};
 use hl_image::MemoryWriter;
 use hl_model::{Fault, HasSizes};
 use std::alloc::Global;
@@ -99,8 +99,10 @@ impl MemoryDevice {
 /// What threads left, and the device of their log.
 #[derive(Drop)]
 pub struct Written<T> {
-    /// What each thread returned.
-    pub outs: Result<Outs<T>, Fault>,
+    /// What each thread returned, by the threads' numbers.
+    pub outs: Outs<T>,
+    /// What the crew did, as in [`Returned`](crate::Returned).
+    pub crew: Result<CrewReport, Fault>,
     pub device: MemoryDevice,
 }
 
@@ -125,6 +127,8 @@ pub fn with_memory<R: Threads + Wait + Sync, P: Work<R> + Sync, S: HasSizes>(
     ensures closed { let o = of_sizes S.sizes_of opening
         in IfOk result (IsClosed o
         (AreWritten P.Job (opened_as o) (is_some duty.cut_above) (P.returns work.now))) }
+    ensures stands { IfOk result (λ closed. IsOk closed.ending) }
+    ensures crew { IfOk result (λ closed. TellsCrew duty closed.out.crew) }
     ensures one { IfOk result (λ closed. HaveOneTrace P.Job (S.sizes_of opening.params)
         (P.returns work.now) (on_memory closed.out.device) closed.out.outs closed.ending) }
 {
@@ -137,11 +141,9 @@ pub fn with_memory<R: Threads + Wait + Sync, P: Work<R> + Sync, S: HasSizes>(
     let closed = shared.run(opening.of_sizes(), Some(device))?;
     let Closed { out, ending } = closed;
     let device = out.1.unwrap();
+    let Returned { outs, crew } = out.0;
     Ok(Closed {
-        out: Written {
-            outs: out.0,
-            device,
-        },
+        out: Written { outs, crew, device },
         ending,
     })
 }

@@ -69,6 +69,7 @@ pub(crate) fn run<R: Threads + Wait + Clock + Print + Sync>(
         copies: AtomicU64::new(0),
     };
     let finished = run_threads(rt, alloc, plan.config, &shared)?;
+    finished.crew?;
     let mut ended = finished.outs.into_iter().chain(finished.last);
     ended.try_for_each(|outcome| outcome)?;
     println!(rt; "checked {} counters", plan.keys)?;

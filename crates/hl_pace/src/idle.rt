@@ -1,5 +1,5 @@
 //! A crew that serves while there is nothing to do.
-use hl::{Duty, Fault, NoJob, Opening, Params, Realm, Session, Work, with_threads};
+use hl::{Duty, Fault, NoJob, Opening, Params, Realm, Returned, Session, Work, with_threads};
 use std::alloc::Global;
 use std::sync::Wait;
 use std::thread::{Parker, Threads};
@@ -51,7 +51,8 @@ pub(crate) fn run<R: Threads + Wait + Sync>(
     };
     let duty = Duty::checked(params, 2, 32).ok_or(Fault::Size)?;
     let closed = with_threads(rt, alloc, opening, duty, &Sleeper { seconds })?;
-    let outs = closed.out?;
+    let Returned { outs, crew } = closed.out;
+    crew?;
     closed.ending?;
     for out in outs {
         out?;

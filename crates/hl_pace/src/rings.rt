@@ -1,5 +1,5 @@
 //! How long a thread waits for frames beside a crew that has been idle, if it wakes the crew and if it doesn't.
-use hl::{Duty, Fault, NoJob, Opening, Params, Realm, Session, Work, with_threads};
+use hl::{Duty, Fault, NoJob, Opening, Params, Realm, Returned, Session, Work, with_threads};
 use std::alloc::Global;
 use std::sync::Wait;
 use std::thread;
@@ -124,7 +124,8 @@ pub(crate) fn run<R: Threads + Wait + Clock + Sync>(
     let duty = duty.cutting_above(1_000);
     let closed = with_threads(rt, alloc, opening, duty, &Filler { rounds })?;
     let mut all = Waited { rung: 0, left: 0 };
-    let outs = closed.out?;
+    let Returned { outs, crew } = closed.out;
+    crew?;
     closed.ending?;
     for out in outs {
         let waited = out??;

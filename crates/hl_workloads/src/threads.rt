@@ -2,7 +2,7 @@
 use crate::counters::{Counters, Pause};
 use crate::digest::Digest;
 use crate::failure::Failure;
-use hl::{Duty, Fault, NoJob, Opening, Params, Realm, Session, Work, with_threads};
+use hl::{Duty, Fault, NoJob, Opening, Params, Realm, Returned, Session, Work, with_threads};
 use std::alloc::Global;
 use std::sync::Wait;
 use std::sync::atomic::AtomicU64;
@@ -52,7 +52,8 @@ pub(crate) fn run<R: Threads + Wait + Clock + Sync>(
     };
     let closed = with_threads(rt, alloc, opening, duty.cutting_above(1 << 14), &counting)?;
     let mut digest = Digest::new();
-    let outs = closed.out?;
+    let Returned { outs, crew } = closed.out;
+    crew?;
     closed.ending?;
     for told in outs {
         digest.add(told??);

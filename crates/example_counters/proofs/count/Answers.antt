@@ -1,4 +1,4 @@
-use Rattle.std.proofs.Common.{rules, ◌≡◌, [], ◌∷◌, Ok, subst₂}
+use Rattle.std.proofs.Common.{rules, ◌≡◌, [], ◌∷◌, Ok, subst}
 use Rattle.hl_action.specs.declared.no_job.NoJob.{NoJob}
 use Rattle.hl.specs.Devices.{on_memory}
 use Rattle.hl.specs.Left.{IsLeft}
@@ -12,12 +12,11 @@ pub returns-clause-counted : goal.returns-clause-counted
 returns-clause-counted g c =
     let closed = c.in_ok-closed.closed in
     let sizes = g.S.HasSizes.sizes_of c.args.opening.params in
-    let outs = c.in_ok-outs.outs in
+    let outs = closed.out.outs in
     let ending = c.in-Ok.ending in
     let device = closed.out.device in
-    let outs_are : closed.out.outs ≡ Ok outs = search rules in
     let ending_is : closed.ending ≡ Ok ending = search rules in
-    let one = subst₂ (λ results ending. HaveOneTrace NoJob sizes (λ i. returns_sums) (on_memory device) results ending) outs_are ending_is c.in_ok-closed.ensures.one in
+    let one = subst (λ ending. HaveOneTrace NoJob sizes (λ i. returns_sums) (on_memory device) outs ending) ending_is c.in_ok-closed.ensures.one in
     let first = c.word_left.result in
     let second = c.word_left-2.result in
     let third = c.word_left-3.result in

@@ -6,14 +6,12 @@ use Rattle.example_tickets.proofs.in_turn.draw_in_turn.Goals as goal
 pub returns : goal.returns
 returns g c =
     let closed = c.in_ok-closed.closed in
-    let outs = c.in_ok-outs.outs in
     let ending = c.in_ok-ending.ending in
     let first = c.in_ok-first.first in
     let second = c.in_ok-second.second in
     let opened : c.with_threads.result ≡ Ok closed = search rules in
-    let outs_are : closed.out ≡ Ok outs = search rules in
     let ending_is : closed.ending ≡ Ok ending = search rules in
-    let at : slice_get outs.items 0 ≡ Some (Ok (Some first)) = search rules in
-    let also : slice_get outs.items 1 ≡ Some (Ok (Some second)) = search rules in
-    turns_left _ _ (of_sizes g.S.HasSizes.sizes_of c.args.opening) c.with_threads.result closed outs ending first second
-    opened outs_are ending_is at also (search rules) c.later_calls_begin.ensures c.with_threads.ensures.closed
+    let at : slice_get closed.out.outs.items 0 ≡ Some (Ok (Some first)) = search rules in
+    let also : slice_get closed.out.outs.items 1 ≡ Some (Ok (Some second)) = search rules in
+    turns_left _ _ (of_sizes g.S.HasSizes.sizes_of c.args.opening) c.with_threads.result closed ending first second
+    opened ending_is at also (search rules) c.later_calls_begin.ensures c.with_threads.ensures.closed

@@ -10,15 +10,15 @@ returns-clause-served g c =
     let other = c.into_memory.ensures in (
       record {
         memory = search rules;
-        limits = c.serve-crew.ensures.limits;
-        stay = c.serve-crew.ensures.kept.stay;
+        limits = c.serve_with-crew.ensures.limits;
+        stay = c.serve_with-crew.ensures.kept.stay;
         images = λ none.
-            sinks_taken g.P.Work.took c.args.self.now.work.now g.T.Named.work (λ sink. sink.memory) c.args.log.now.sizes c.serve-crew.result.0 c.of_parts-device.result c.requires.work
+            sinks_taken g.P.Work.took c.args.self.now.work.now g.T.Named.work (λ sink. sink.memory) c.args.log.now.sizes c.serve_with-crew.result.0 c.of_parts-device.result c.requires.work
             (ap is_some (sym one.memory) ∙ one.kind ∙ sym other.kind ∙ ap is_some other.memory)
             (c.of_parts-device.ensures.kind ∙ ap is_some one.memory)
             (subst (λ m. IfSome c.of_parts-device.result (λ d. m ≡ Some d.first)) one.memory c.of_parts-device.ensures.first)
             (subst (λ m. IfSome c.of_parts-device.result (λ d. m ≡ Some d.second)) other.memory c.of_parts-device.ensures.second)
-            (c.serve-crew.ensures.kept.images refl none);
+            (c.serve_with-crew.ensures.kept.images refl none);
       },
       search rules,
     )
@@ -26,4 +26,4 @@ returns-clause-served g c =
 -- the crew is that whose riders these were, with a sink for each writer
 pub returns-clause-works : goal.returns-clause-works
 returns-clause-works g c =
-    IfOk-weaker c.serve-crew.result.1 _ _ (λ report worked. record { given = _; olds_are = refl; crew = c.serve-crew.result.0; riders_are = refl; worked = worked }) c.serve-crew.ensures.works
+    IfOk-weaker c.serve_with-crew.result.1 _ _ (λ report worked. record { given = _; olds_are = refl; crew = c.serve_with-crew.result.0; riders_are = refl; worked = worked }) c.serve_with-crew.ensures.works
