@@ -1,11 +1,10 @@
 //! A log of `hl` by its configuration: when a work finishes, and what a number out of its range is called.
+use crate::gathering::Gathering;
 use hl::{Config, Fault, NoJob, Number, Realm, Session, Work, attempt, run_threads};
 use std::sync::Wait;
 use std::sync::atomic::AtomicU64;
 use std::sync::atomic::Ordering::SeqCst;
 use std::test::Fail;
-use std::thread::Parker;
-use std::time::Duration;
 
 /// How often an operation is tried again beside a crew.
 const AGAIN: u32 = 100_000;
@@ -111,20 +110,7 @@ fn a_session_that_filled_the_journal_is_left(rt: HostRuntime) -> Result<(), Fail
 // Threads that fill pages once each of them is in its session: an entry at a full journal isn't tried again.
 #[derive(Drop)]
 struct FillsPages {
-    entered: AtomicU64,
-}
-
-impl FillsPages {
-    // Waits until all have entered, a second at most.
-    fn wait_for_others(&self, rt: &impl Wait) {
-        self.entered.fetch_add(1, SeqCst);
-        for _ in 0..20_000 {
-            if self.entered.load(SeqCst) == FILLING {
-                return;
-            }
-            Parker::new().park_timeout(rt, Duration::from_micros(50));
-        }
-    }
+    gathering: Gathering,
 }
 
 impl<R: Wait> Work<R> for FillsPages {
@@ -138,7 +124,7 @@ impl<R: Wait> Work<R> for FillsPages {
         session: &mut Session<R, L>,
         number: u64,
     ) -> Result<u64, Fault> {
-        self.wait_for_others(rt);
+        self.gathering.wait_for_all(rt);
         for _ in 0..8 {
             attempt(session, AGAIN, |session| session.append(&[number; 32]))?;
         }
@@ -164,7 +150,7 @@ fn filled_pages(journal: u64) -> Config {
 #[test]
 fn the_shortest_journal_has_room_for_a_session(rt: HostRuntime) -> Result<(), Fail> {
     let work = FillsPages {
-        entered: AtomicU64::new(0),
+        gathering: Gathering::of(FILLING),
     };
     for journal in [0, 1, 2, 8, 32] {
         let config = filled_pages(journal);

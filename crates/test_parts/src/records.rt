@@ -68,7 +68,7 @@ fn records_are_appended_and_loaded(rt: HostRuntime) -> Result<(), Fail> {
         stamp: 1,
     };
     let closed = with_threads(&rt, rt.alloc(), opening, duty, &Appending)?;
-    for out in closed.out? {
+    for out in closed.out.outs {
         assert!(rt; out??);
     }
     closed.ending?;

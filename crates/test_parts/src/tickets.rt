@@ -20,7 +20,7 @@ fn four_tickets_differ(rt: HostRuntime) -> Result<(), Fail> {
     let drawn = draw(&rt, rt.alloc(), opening_of(params, 4), duty)?;
     let epoch = drawn.ending?.snapshot.epoch;
     let mut tickets = Vec::new(rt.alloc());
-    for out in drawn.out? {
+    for out in drawn.out.outs {
         tickets.push(out??)?;
     }
     assert!(rt; tickets.iter().all(|ticket| 1 <= *ticket && *ticket < epoch));
