@@ -184,7 +184,7 @@ each_thread_refused() {
         is_told_refused "without thread $thread" || return
     done
     with_refusal REFUSED_THREAD=0
-    read -r _ threads < "$room/counted"
+    read -r _ threads _ < "$room/counted"
     [ "$threads" = 5 ] || { echo "it made $threads threads"; return 1; }
 }
 
@@ -199,26 +199,44 @@ each_thread_refused_to_a_log() {
         [ "$status" = 1 ] || { echo "without thread $thread it ended with status $status"; return 1; }
     done
     refused REFUSED_THREAD=0 "$pace" idle 0
-    read -r _ threads < "$room/counted"
+    read -r _ threads _ < "$room/counted"
     [ "$status" = 0 ] && [ "$threads" = 5 ] || { echo "it made $threads threads"; return 1; }
 }
 
 # Each call for memory is refused in turn to a log with one thread of work. Its program then ends with status 1, or does
-# without; a crew that nobody stopped would never end.
+# without, as it may once its threads have begun, and seldom before; a crew that nobody stopped would never end.
 each_call_refused_to_a_log() {
-    local status call calls _ done_without=0
+    local status call calls later _ done_without=0
     refused REFUSED_CALL=0 "$pace" idle 0
-    [ "$status" = 0 ] && read -r calls _ < "$room/counted" || return 1
+    [ "$status" = 0 ] && read -r calls _ later _ < "$room/counted" || return 1
     [ "$calls" -gt 30 ] || { echo "it made $calls calls"; return 1; }
     for call in $(seq "$calls"); do
         refused "REFUSED_CALL=$call" "$pace" idle 0
         case "$status" in
-            0) done_without="$((done_without + 1))" ;;
+            0) done_without="$((done_without + (call <= calls - later)))" ;;
             1) ;;
             *) echo "without call $call it ended with status $status" && return 1 ;;
         esac
     done
-    [ "$done_without" -le 8 ] || { echo "it did without $done_without of its calls"; return 1; }
+    [ "$done_without" -le 8 ] || { echo "it did without $done_without of its first calls"; return 1; }
+}
+
+# Each call for memory is refused in turn that a log with one thread of work makes once its threads begin. What that one
+# returns and the log's ending come whatever memory does, so the program ends with status 0. Only where a thread of the crew
+# is wanting may it be 1, as above: the library takes some memory before it makes one.
+each_later_call_refused_to_a_log() {
+    local status call calls all threads _
+    refused REFUSED_AFTER=0 "$pace" idle 0
+    [ "$status" = 0 ] && read -r _ all calls < "$room/counted" || return 1
+    [ "$calls" -gt 0 ] || { echo "it made no call once its threads began"; return 1; }
+    for call in $(seq "$calls"); do
+        refused "REFUSED_AFTER=$call" "$pace" idle 0
+        read -r _ threads _ < "$room/counted"
+        if [ "$status" != 0 ] && ! { [ "$status" = 1 ] && [ "$threads" -lt "$all" ]; }; then
+            echo "without call $call of $calls it ended with status $status, and made $threads threads"
+            return 1
+        fi
+    done
 }
 
 if has_all "memory refused call by call" cc; then
@@ -237,6 +255,7 @@ if has_all "memory refused call by call" cc; then
     check "each thread refused in a race" each_thread_refused
     check "each thread refused to a log" each_thread_refused_to_a_log
     check "each call for memory refused to a log" each_call_refused_to_a_log
+    check "each call for memory refused to a log whose threads have begun" each_later_call_refused_to_a_log
 fi
 
 # A domain of the greatest sizes wants 512 GiB for its words. The bound is for systems that promise more than they have.

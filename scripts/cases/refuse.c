@@ -3,7 +3,9 @@
 //
 // REFUSED_CALL=n     the n-th call is answered by no memory
 // REFUSED_THREAD=n   the n-th thread isn't made
-// COUNTED=FILE       at its end the program's calls and its threads are told there
+// REFUSED_AFTER=n    the n-th call is answered by no memory of those after the program began to make its first thread, but
+//                    for what pthread_create takes for itself
+// COUNTED=FILE       at its end the program's calls, its threads, and the calls of REFUSED_AFTER are told there
 #define _GNU_SOURCE
 #include <dlfcn.h>
 #include <errno.h>
@@ -19,8 +21,13 @@ extern void *__libc_realloc(void *old, size_t size);
 
 static atomic_long calls;
 static atomic_long threads;
+static atomic_long calls_after;
 static long refused_call;
 static long refused_thread;
+static long refused_after;
+
+// Whether this thread is inside pthread_create. The model is one that takes no memory at its first use.
+static _Thread_local int makes_thread __attribute__((tls_model("initial-exec")));
 
 // The number that a name tells, or 0.
 static long number_of(const char *name) {
@@ -31,10 +38,19 @@ static long number_of(const char *name) {
 __attribute__((constructor)) static void begin(void) {
     refused_call = number_of("REFUSED_CALL");
     refused_thread = number_of("REFUSED_THREAD");
+    refused_after = number_of("REFUSED_AFTER");
+}
+
+// Counts a call: whether it is the one of this number.
+static int is_counted(atomic_long *counted, long number) {
+    return atomic_fetch_add(counted, 1) + 1 == number;
 }
 
 static int is_refused(void) {
-    int refused = atomic_fetch_add(&calls, 1) + 1 == refused_call;
+    int refused = is_counted(&calls, refused_call);
+    if (atomic_load(&threads) > 0 && !makes_thread) {
+        refused |= is_counted(&calls_after, refused_after);
+    }
     if (refused) {
         errno = ENOMEM;
     }
@@ -52,20 +68,24 @@ void *realloc(void *old, size_t size) {
 typedef int create(pthread_t *, const pthread_attr_t *, void *(*)(void *), void *);
 
 int pthread_create(pthread_t *made, const pthread_attr_t *attributes, void *(*start)(void *), void *given) {
-    if (atomic_fetch_add(&threads, 1) + 1 == refused_thread) {
+    if (is_counted(&threads, refused_thread)) {
         return EAGAIN;
     }
+    makes_thread = 1;
     create *next = (create *)dlsym(RTLD_NEXT, "pthread_create");
-    return next(made, attributes, start, given);
+    int refused = next(made, attributes, start, given);
+    makes_thread = 0;
+    return refused;
 }
 
 static void tell_counts(void) {
-    // To tell them takes memory, too.
-    long calls_made = atomic_load(&calls);
+    // To tell them takes memory, too, and that isn't refused.
+    long calls_made = atomic_load(&calls), made_after = atomic_load(&calls_after);
+    refused_call = refused_after = 0;
     const char *path = getenv("COUNTED");
     FILE *file = path == NULL ? NULL : fopen(path, "w");
     if (file != NULL) {
-        fprintf(file, "%ld %ld\n", calls_made, atomic_load(&threads));
+        fprintf(file, "%ld %ld %ld\n", calls_made, atomic_load(&threads), made_after);
         fclose(file);
     }
 }
