@@ -146,10 +146,11 @@ fn a_device_is_asked_once_for_each_take(rt: HostRuntime) -> Result<(), Fail> {
     };
     let closed = with_threads(&rt, rt.alloc(), opening_of(params), duty, &device)?;
     let Returned { outs, crew } = closed.out;
+    let report = crew?;
+    let ending = closed.ending?;
     for out in outs {
         out??;
     }
-    let (report, ending) = (crew?, closed.ending?);
     let (asked, six) = (device.asked.lock(&rt), ending.snapshot.six);
     assert!(rt; asked.iter().all(|ask| ask.is_right));
     assert_eq!(rt; six.tail, PAGES * PAGE - 2);

@@ -1,5 +1,5 @@
 //! A log of `hl` with a crew that sleeps: how it is woken.
-use hl::{Duty, Fault, NoJob, Opening, Params, Realm, Session, Work, with_threads};
+use hl::{Duty, Fault, NoJob, Opening, Params, Realm, Returned, Session, Work, with_threads};
 use std::sync::Wait;
 use std::test::Fail;
 use std::thread;
@@ -88,7 +88,10 @@ fn a_session_wakes_its_crew(rt: HostRuntime) -> Result<(), Fail> {
         stamp: 1,
     };
     let closed = with_threads(&rt, rt.alloc(), opening, duty, &Waking)?;
-    for out in closed.out.outs {
+    let Returned { outs, crew } = closed.out;
+    crew?;
+    closed.ending?;
+    for out in outs {
         let Looked { woken, left } = out??;
         assert!(rt; woken < left / 2);
     }

@@ -1,5 +1,5 @@
 //! Whole records of `hl`: that they are placed and stored, and loaded, while nothing is in the way.
-use hl::{Duty, Fault, NoJob, Opening, Params, Realm, Session, Work, with_threads};
+use hl::{Duty, Fault, NoJob, Opening, Params, Realm, Returned, Session, Work, with_threads};
 use std::sync::Wait;
 use std::test::Fail;
 
@@ -68,9 +68,11 @@ fn records_are_appended_and_loaded(rt: HostRuntime) -> Result<(), Fail> {
         stamp: 1,
     };
     let closed = with_threads(&rt, rt.alloc(), opening, duty, &Appending)?;
-    for out in closed.out.outs {
+    let Returned { outs, crew } = closed.out;
+    crew?;
+    closed.ending?;
+    for out in outs {
         assert!(rt; out??);
     }
-    closed.ending?;
     Ok(())
 }
