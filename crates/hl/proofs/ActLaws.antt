@@ -5,7 +5,7 @@ use Rattle.hl_model.specs.declared.fault.Fault.{Fault}
 use Rattle.hl_model.specs.declared.fault.Fault.TheVariants.{Beyond, JournalFull}
 use Rattle.hl_model.specs.declared.step.Reply.{Reply}
 use Rattle.hl_model.specs.declared.step.Step.{Step}
-use Rattle.hl_model.specs.declared.step.Step.TheVariants.{Acquire, Refresh, Release, Allocate, Bare, Take, Done}
+use Rattle.hl_model.specs.declared.step.Step.TheVariants.{Acquire, Refresh, Release, Allocate, Bare, Raise, Take, Done}
 use Rattle.hl_model.specs.declared.view.View.{View}
 use Rattle.hl_model.specs.Offsets.{place_of, tail}
 use Rattle.hl_model.specs.Pages.{clean_of}
@@ -67,6 +67,9 @@ plain_done ticket = record { touch = refl; frees = refl; stays = refl; takes = r
 
 pub plain_bare : IsPlain Bare
 plain_bare = record { touch = refl; frees = refl; stays = refl; takes = refl }
+
+pub plain_raise : (x : ℕ) → IsPlain (Raise x)
+plain_raise x = record { touch = refl; frees = refl; stays = refl; takes = refl }
 
 pub plain_take : IsPlain Take
 plain_take = record { touch = refl; frees = refl; stays = refl; takes = refl }

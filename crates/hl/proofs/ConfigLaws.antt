@@ -7,7 +7,7 @@ use Rattle.hl_crew.specs.declared.duty.Duty.{Duty}
 use Rattle.hl.specs.declared.config.Config.{Config}
 use Rattle.hl.specs.declared.config.Number.{Number}
 use Rattle.hl.specs.declared.config.Number.TheVariants.{Threads, PageSize, Frames, Actions, Mutable, Resident, Journal, Stamp}
-use Rattle.hl.specs.Configs.{all_fit, fits, opening_of, sizes_of_config}
+use Rattle.hl.specs.Configs.{all_fit, behind, fits, opening_of, sizes_of_config}
 use Rattle.hl.specs.Crews.{can_run}
 use Rattle.hl.specs.Openings.{can_open, IsInRange}
 use Rattle.hl.specs.declared.opening.Opening.{Opening}
@@ -48,8 +48,8 @@ own_runs : (c : Config) (duty : Duty) → all_fit c ≡ true → duty.frames ≡
 unfolding all_fit fits can_run can_open
 own_runs c duty fit frames = search (rules, nat_tests)
 
-pub runs : (c : Config) (sizes : Sizes) (duty : Duty) → all_fit c ≡ true → sizes ≡ sizes_of_config c → duty.frames ≡ c.frames → can_run (record { params = sizes; riders = c.threads + 5; journal = c.journal; stamp = c.stamp }) duty ≡ true
-runs c sizes duty fit same frames = subst (λ (s : Sizes). can_run (record { params = s; riders = c.threads + 5; journal = c.journal; stamp = c.stamp }) duty ≡ true) (sym same) (own_runs c duty fit frames)
+pub runs : (c : Config) (sizes : Sizes) (duty : Duty) → all_fit c ≡ true → sizes ≡ sizes_of_config c → duty.frames ≡ c.frames → can_run (record { params = sizes; riders = c.threads + 4 + behind c.flush_at_end; journal = c.journal; stamp = c.stamp }) duty ≡ true
+runs c sizes duty fit same frames = subst (λ (s : Sizes). can_run (record { params = s; riders = c.threads + 4 + behind c.flush_at_end; journal = c.journal; stamp = c.stamp }) duty ≡ true) (sym same) (own_runs c duty fit frames)
 
 -- what a log has that can be run
 opens_of_run : (o : Opening Sizes) (duty : Duty) → can_run o duty ≡ true → can_open o ≡ true

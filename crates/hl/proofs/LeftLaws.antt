@@ -59,7 +59,7 @@ given_at f a (suc n) zero less = ap (λ x. Some (f x)) (omega arith)
 given_at f a (suc n) (suc k) less = given_at f (a + 1) n k (omega (arith, less)) ∙ ap (λ x. Some (f x)) (omega arith)
 
 -- an address is the first of its page and its place there
-parts_of : (sizes : Sizes) (a : ℕ) → a / sizes.page_size * sizes.page_size + a % sizes.page_size ≡ a
+pub parts_of : (sizes : Sizes) (a : ℕ) → a / sizes.page_size * sizes.page_size + a % sizes.page_size ≡ a
 parts_of sizes a =
     let swap : sizes.page_size * (a / sizes.page_size) ≡ a / sizes.page_size * sizes.page_size = omega arith in
     omega (arith, swap, div-add-mod a sizes.page_size)

@@ -19,3 +19,5 @@ pub mod UseLaws
 pub mod AppendActs
 pub mod WordsLeft
 pub mod ScanLaws
+pub mod FlushLaws
+pub mod WrittenLaws

@@ -21,9 +21,26 @@ use Rattle.hl_model.proofs.ListLaws.{all-append, until_last-le}
 use Rattle.hl_laws.proofs.AppendLaws.{until_last-append}
 use Rattle.hl_laws.proofs.NoFaultLaws.{unless_err}
 use Rattle.hl_keeper.specs.Passes.{PassRecord, seen, cell_at, store_fault, load_fault, touch_fault, touches_most, with_store, with_load}
-use Rattle.hl_domain.specs.Domains.{DomainState, Refreshed}
+use Rattle.hl_keeper.specs.Touches.{view_after, view_past}
+use Rattle.hl_domain.specs.Domains.{DomainState, with_held, Refreshed}
 use Rattle.hl.specs.Sessions.{SessionState, with_pass}
 use Rattle.hl.specs.Records.{with_loads, entered_steps, own_steps, writes_in, writes_at, StoresOrRefreshes, is_refresh, touches_after, RefreshesIfFull, stores_in, stored_at, AreStored, RefusesStore}
+
+-- a store leaves the tail that a pass sees
+tail_after : (view : View) (xs : List Step) (t a v : ℕ) → (view_after view (xs ++ Write t a v ∷ [])).tail ≡ (view_after view xs).tail
+unfolding view_after
+tail_after view [] t a v = refl
+tail_after view (x ∷ xs) t a v = tail_after (view_past view x) xs t a v
+
+-- a pass that was given a view has that one's tail
+pub held_tail : (epoch : ℕ) (view : View) (p : PassRecord) → (seen (with_held epoch view p)).tail ≡ view.tail
+unfolding view_after
+held_tail epoch view p = refl
+
+pub stored_tail : (sizes : Sizes) (a v : ℕ) (p : PassRecord) (fault : Option Fault) → (seen (unless_refused fault p (with_store sizes a v p))).tail ≡ (seen p).tail
+unfolding with_store
+stored_tail sizes a v p None = tail_after p.held p.touches p.slot a v
+stored_tail sizes a v p (Some fault) = refl
 
 writes_in-append : (xs ys : List Step) → writes_in (xs ++ ys) ≡ writes_in xs ++ writes_in ys
 writes_in-append [] ys = refl

@@ -1,7 +1,7 @@
 -- An operation of a session that is tried again while there is a cure for what it was refused for.
 use Rattle.std.specs.Prelude.{◌≡◌, ◌⊎◌, ℕ, ◌≤◌, Bool, false, is_some, IfErr, Option, Some, None, Result, Err}
 use Rattle.hl_model.specs.declared.fault.Fault.{Fault}
-use Rattle.hl_model.specs.declared.fault.Fault.TheVariants.{Busy, Beyond, DrainFull, JournalFull, TouchesFull, WindowFull}
+use Rattle.hl_model.specs.declared.fault.Fault.TheVariants.{Busy, Beyond, Device, DrainFull, JournalFull, TouchesFull, WindowFull}
 use Rattle.hl_action.specs.Firings.{FiringRecord}
 use Rattle.hl_crew.specs.Goes.{Followed}
 use Rattle.hl.specs.declared.session.tries.Cure.{Cure}
@@ -21,8 +21,13 @@ cure_of JournalFull = Some Others
 cure_of WindowFull = Some Others
 cure_of _ = None
 
+-- what is told in a fault's place where the device refuses what the crew writes
+abbrev pub told_if_refused : Fault → Fault
+told_if_refused (Busy page) = Device
+told_if_refused fault = fault
+
 module _ {O S T X : Type 0} (Tries : O → S → Result T X → O → S → Type 0)
-    (Cures : X → Option Cure → Type 0) (Helps : S → Cure → Helped → S → Type 0) where
+    (Cures : X → Option Cure → Type 0) (Tells : X → X → Type 0) (Helps : S → Cure → Helped → S → Type 0) where
   -- a try was refused for a reason that has a cure, and a round of help for that cure came after it, however that was
   -- answered
   pub record TriesInVain (o : O) (old : S) (p : O) (new : S) : Type 0 where
@@ -38,8 +43,12 @@ module _ {O S T X : Type 0} (Tries : O → S → Result T X → O → S → Type
   abbrev pub TriesNext : ℕ → Result Bool X → O × S → O × S → Type 0
   TriesNext i next old new = TriesInVain old.0 old.1 new.0 new.1
 
-  -- the last try was answered so. At most so many others came before it, each in vain; and as many did, if it was refused
-  -- and not for a reason without a cure
+  -- a try was answered so, and this is told: the same, or in an error's place what is told where the device refuses
+  abbrev pub AreTold : Result T X → Result T X → Type 0
+  AreTold answer told = (told ≡ answer) ⊎ ((error instead : X) × (answer ≡ Err error) × (told ≡ Err instead) × Tells error instead)
+
+  -- the last try was answered, and so this is told. At most so many others came before it, each in vain; and as many did, if
+  -- it was refused and not for a reason without a cure
   pub record Attempts (again : ℕ) (result : Result T X) (o : O) (old new : S) : Type 0 where
     pub vain : ℕ
     pub most : vain ≤ again
@@ -47,8 +56,10 @@ module _ {O S T X : Type 0} (Tries : O → S → Result T X → O → S → Type
     pub last : S
     pub before : Followed TriesNext vain (o, old) (operation, last)
     pub left : O
-    pub answer : Tries operation last result left new
-    pub all_tried : IfErr result (λ error. Cures error None ⊎ (vain ≡ again))
+    pub answered : Result T X
+    pub answer : Tries operation last answered left new
+    pub told : AreTold answered result
+    pub all_tried : IfErr answered (λ error. Cures error None ⊎ (vain ≡ again))
 
 -- whether a nap follows a round of help for this cure, which was answered so
 abbrev pub is_nap_due : Cure → Result Bool Fault → Bool

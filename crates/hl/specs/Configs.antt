@@ -1,5 +1,5 @@
 -- The numbers of a log with threads, a crew and one session more.
-use Rattle.std.specs.Prelude.{◌≡◌, ◌+◌, ◌-◌, ◌/◌, ◌^◌, ℕ, max, min, nat_le, nat_lt, Bool, ◌&&◌, Some}
+use Rattle.std.specs.Prelude.{◌≡◌, ◌+◌, ◌-◌, ◌/◌, ◌^◌, ℕ, max, min, nat_le, nat_lt, Bool, false, ◌&&◌, if◌then◌else◌, Some}
 use Rattle.std.specs.Int.{is_power_of_two}
 use Rattle.hl_model.specs.Sizes.{Sizes}
 use Rattle.hl_crew.specs.declared.duty.Duty.{Duty}
@@ -37,6 +37,7 @@ for_threads threads = record {
   resident = 192;
   journal = 2 ^ 15;
   stamp = 1;
+  flush_at_end = false;
 }
 
 -- the same with so many frames: a quarter of them, but at least one, is free for what is placed while the crew works; of
@@ -51,10 +52,18 @@ abbrev pub sizes_of_config : Config → Sizes
 sizes_of_config c =
     record { page_size = c.page_size; frames = c.frames; slots = c.threads; drain = c.actions }
 
--- its opening: a rider for each thread, four for the crew, and one to finish
+-- how many riders stand behind those of the threads and the crew: one to finish, and one to flush, if that is wanted
+abbrev pub behind : Bool → ℕ
+behind flush = if flush then 2 else 1
+
+-- its opening: a rider for each thread, four for the crew, one to finish, and one to flush at the end, if that is wanted
 abbrev pub opening_of : Config → Opening Sizes
-opening_of c =
-    record { params = sizes_of_config c; riders = c.threads + 5; journal = c.journal; stamp = c.stamp }
+opening_of c = record {
+  params = sizes_of_config c;
+  riders = c.threads + 4 + behind c.flush_at_end;
+  journal = c.journal;
+  stamp = c.stamp;
+}
 
 -- how many steps its journal may have at the end of a crew's turn: half of it, and so few that there is room for 33, which
 -- a locked call of a session with 32 touches enters

@@ -4,6 +4,7 @@ pub mod Configs
 pub mod Crews
 pub mod Devices
 pub mod Evictions
+pub mod Flushes
 pub mod LastSession
 pub mod Leaves
 pub mod Helps

@@ -1,5 +1,5 @@
 -- What a log is at, as a text.
-use Rattle.std.specs.Prelude.{◌≡◌, ℕ, Option, Some, None, Result, MatchResult, List, [], ◌∷◌, ◌++◌, length, take, codes}
+use Rattle.std.specs.Prelude.{◌≡◌, ℕ, Option, Some, None, Result, MatchResult, List, [], ◌∷◌, ◌++◌, length, take, codes, ◌==◌, if◌then◌else◌}
 use Rattle.std.specs.List.{flat_map}
 use Rattle.std.specs.Io.KnownBytes.{Appends}
 use Rattle.hl_model.specs.declared.fault.Fault.{Fault}
@@ -27,6 +27,11 @@ abbrev pub oldest_text : Option ℕ → List Holder → List ℕ
 oldest_text None holding = []
 oldest_text (Some ticket) holding = action_text ticket holding
 
+-- the line of how many of the newest writes the device refused, if it refused any
+abbrev pub refused_text : ℕ → List ℕ
+refused_text refused =
+    if refused == 0 then [] else flat_map line_of ((codes "refused_writes", refused) ∷ [])
+
 -- the report of a log: of all quantities of a list that was met under the lock, and behind them of who held up the oldest
 -- action of a list that was met there
 pub record IsReport (F : Type 0) (log : DomainState) (text : List ℕ) : Type 0 where
@@ -48,7 +53,7 @@ Reports F log result old new = (text : List ℕ) × IsReport F log text
     × MatchResult result (λ _. Appends old new text) (λ fault. (fault ≡ Stream) × BreaksOff old new text)
 
 -- the same by a rider's two calls: the first was told all quantities of the list that it met, the second who held up the
--- oldest action of the list that it met
+-- oldest action of the list that it met; and behind it so many refused writes
 pub record IsReportBy (F : Type 0) (log : DomainState) (old new : RiderState) (text : List ℕ) : Type 0 where
   pub told : Snapshot × ℕ × ℕ
   pub mid : RiderState
@@ -56,7 +61,8 @@ pub record IsReportBy (F : Type 0) (log : DomainState) (old new : RiderState) (t
   pub ticket : Option ℕ
   pub holding : List Holder
   pub held : LooksAtHolders F log 64 ticket holding mid new
-  pub text_is : text ≡ report_text told.0 told.1 told.2 ++ oldest_text ticket holding
+  pub refused : ℕ
+  pub text_is : text ≡ (report_text told.0 told.1 told.2 ++ oldest_text ticket holding) ++ refused_text refused
 
 -- such a report was written, or a beginning of one
 abbrev pub ReportsBy : (F : Type 0) → DomainState → Result (Unit {0}) Fault → RiderState → RiderState

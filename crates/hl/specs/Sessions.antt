@@ -3,7 +3,7 @@ use Rattle.std.specs.Prelude.{◌≡◌, ℕ, Bool, true, false, is_some, Option
 use Rattle.hl_model.specs.declared.fault.Fault.{Fault}
 use Rattle.hl_model.specs.declared.step.Step.TheVariants.{Acquire, Release}
 use Rattle.hl_words.specs.States.{RiderState}
-use Rattle.hl_keeper.specs.Passes.{PassRecord, with_rider}
+use Rattle.hl_keeper.specs.Passes.{PassRecord, seen, with_rider}
 use Rattle.hl_core.specs.Holding.{least_free}
 use Rattle.hl_keeper.specs.Calls.{call_fault, Makes, MakesAt, MakesTouched, pass_after}
 use Rattle.hl_domain.specs.Domains.{DomainState, call_of, pass_call, enter_call, MakesUnderLock}
@@ -42,6 +42,10 @@ pub record SessionState : Type 0 where
 -- the same session with another pass
 abbrev pub with_pass : PassRecord → SessionState → SessionState
 with_pass pass s = record s { pass = pass }
+
+-- the tail that a session sees
+abbrev pub tail_seen : SessionState → ℕ
+tail_seen s = (seen s.pass).tail
 
 -- the answer of a call, without what a refusal hands back
 abbrev pub fault_alone : {X Y : Type 0} → Result X (Refused Y) → Result X Fault

@@ -1,5 +1,5 @@
 -- What the threads of a log did is one trace, and memory and device show what it leaves.
-use Rattle.std.specs.Prelude.{ℕ, ◌≡◌, ◌<◌, ◌≤◌, ◌*◌, Bool, Result, Ok, Some, IfOk, List, ◌++◌, length, map, slice_get, slice_index, Vec}
+use Rattle.std.specs.Prelude.{ℕ, ◌≡◌, ◌<◌, ◌≤◌, ◌+◌, ◌*◌, ◌/◌, Bool, Result, Ok, Some, IfOk, List, ◌∷◌, ◌++◌, length, map, slice_get, slice_index, Vec}
 use Rattle.std.specs.List.{AllByRecursion}
 use Rattle.std.specs.declared.alloc.Global.{Global}
 use Rattle.hl_model.specs.declared.fault.Fault.{Fault}
@@ -10,12 +10,14 @@ use Rattle.hl_keeper.specs.Passes.{cell_at}
 use Rattle.hl_domain.specs.Domains.{DomainState, IsEnding}
 use Rattle.hl_image.specs.Image.{image}
 use Rattle.hl_traces.specs.declared.act.Act.{Act}
-use Rattle.hl_traces.specs.OneTrace.{ActBy, acts_by, left_at, page_left, placed_end, AreInRow, AreOne}
-use Rattle.hl.specs.declared.finished.Finished.{Finished}
+use Rattle.hl_traces.specs.declared.act.Act.TheVariants.{Placed}
+use Rattle.hl_traces.specs.OneTrace.{ActBy, by_thread, acts_by, left_at, page_left, placed_end, AreInRow, AreOne}
+use Rattle.hl.specs.declared.outcome.Finished.{Finished}
 use Rattle.hl.specs.Closings.{AllReturned}
+use Rattle.hl.specs.Configs.{behind}
 use Rattle.hl.specs.LastSession.{Finishing}
 use Rattle.hl.specs.Sessions.{SessionState}
-use Rattle.hl.specs.Traces.{acts, AreMet, IsFresh}
+use Rattle.hl.specs.Traces.{acts, AreMet, ArePads, IsFresh}
 
 -- A thread's acts: all that it did in its session, which its work tells so, and then the calls by which it left
 pub record ThreadActs {Out : Type 0} (Returns : SessionState → SessionState → Out → Type 0) (own : List Act)
@@ -69,8 +71,9 @@ HaveOneTrace {Out} F sizes Returns Took results ending = IfOk ending (λ ending.
     (outs : List Out) → results.items ≡ map (λ out. Ok out) outs
     → AreOneTrace F sizes Returns Took outs ending)
 
--- The same with the session that finished: its acts stand under the number behind those of the threads
-pub record FinishedTrace {Out F : Type 0} (sizes : Sizes)
+-- The same with the session that finished: its acts stand under the number behind those of the threads; and under the next
+-- one those of the flush at the end, if that was wanted: calls, and words placed, of which nothing was stored
+pub record FinishedTrace {Out F : Type 0} (sizes : Sizes) (flush : Bool)
     (Returns : ℕ → SessionState → SessionState → Out → Type 0) (Took : ℕ → List ℕ → Type 0)
     (Finishes : SessionState → SessionState → Out → Type 0) (finished : Finished Out F) : Type 0 where
   pub all : List ActBy
@@ -78,5 +81,14 @@ pub record FinishedTrace {Out F : Type 0} (sizes : Sizes)
   pub each : (i : ℕ) (out : Out) → slice_get finished.outs.items i ≡ Some out
       → ThreadActs (Returns i) (acts_by i all) out
   pub finish : ThreadActs (Finishing Finishes) (acts_by (length finished.outs.items) all) finished.last
-  pub theirs : AllByRecursion (λ t. t.thread ≤ length finished.outs.items) all
+  pub flushed : ArePads (acts_by (length finished.outs.items + 1) all)
+  pub theirs : AllByRecursion (λ t. t.thread < length finished.outs.items + behind flush) all
   pub holds : HoldsTrace sizes Took finished.ending all
+
+-- The device has each word of each record, of a log that was flushed up to its tail: it took the image of the word's page, with
+-- the words that the trace leaves there
+abbrev pub AllIsWritten : Type 0 → (ℕ → List ℕ → Type 0) → Type 0
+AllIsWritten F Took = (sizes : Sizes) (ending : EndingState F) (all : List ActBy) → HoldsTrace sizes Took ending all
+    → AreOne all → ending.snapshot.six.tail ≤ ending.snapshot.six.flushed → (newer before : List ActBy) (i a n k : ℕ)
+    → all ≡ newer ++ by_thread i (Placed a n) ∷ before → k < n
+    → let page = (a + k) / sizes.page_size in Took page (image page (page_left sizes page all))

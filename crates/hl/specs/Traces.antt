@@ -40,6 +40,14 @@ AreMet own = AllByRecursion (λ act. (n : ℕ) × (act ≡ Met n)) own
 abbrev pub OnlyMeets : SessionState → SessionState → Type 0
 OnlyMeets old new = (own : List Act) × AreMet own × Does own old new
 
+-- locked calls, and records that were placed and of which nothing was stored, alone
+abbrev pub ArePads : List Act → Type 0
+ArePads own = AllByRecursion (λ act. ((n : ℕ) × (act ≡ Met n)) ⊎ ((a n : ℕ) × (act ≡ Placed a n))) own
+
+-- some of these, and nothing else
+abbrev pub OnlyPads : SessionState → SessionState → Type 0
+OnlyPads old new = (own : List Act) × ArePads own × Does own old new
+
 -- what an answer tells, where a refused call does nothing
 abbrev pub if_ok : {X E : Type 0} → (X → List Act) → Result X E → List Act
 if_ok own (Ok x) = own x

@@ -1,7 +1,7 @@
 //! What a log with threads and a crew is opened with, in few words.
 ghost use Rattle.std.specs.Prelude.{◌≡◌, true, false, Err, IfNone, IfOk, IfSome, IsOk};
 ghost use Rattle.hl_model.specs.declared.fault.Fault.TheVariants.{Size};
-ghost use Rattle.hl.specs.Configs.{all_fit, fits, for_threads, most_steps, with_frames, opening_of, IsDutyOf};
+ghost use Rattle.hl.specs.Configs.{all_fit, behind, fits, for_threads, most_steps, with_frames, opening_of, IsDutyOf};
 ghost use Rattle.hl.specs.Crews.{can_run};
 
 use crate::opening::{Opening, STEPS_LEAST, STEPS_MOST};
@@ -32,6 +32,9 @@ pub struct Config {
     pub journal: u64,
     /// Tells this log from the program's other logs; at most 2^62.
     pub stamp: u64,
+    /// Whether the whole log is flushed once all threads have ended, before [`finish`](crate::Work::finish): the device then
+    /// has each record that a thread appended. [`Finished::flushed`](crate::Finished::flushed) tells whether it was.
+    pub flush_at_end: bool,
 }
 
 /// A number of a [`Config`]. It is displayed as its name and its range.
@@ -63,6 +66,7 @@ impl Config {
             resident: 192,
             journal: 1 << 15,
             stamp: 1,
+            flush_at_end: false,
         }
     }
 
@@ -106,6 +110,20 @@ impl Config {
         }
     }
 
+    /// Why [`run_threads`](crate::run_threads) was refused for these numbers with this fault, to be displayed: for `Size`
+    /// as [`out_of_range`](Config::out_of_range) tells it.
+    pub fn refusal(&self, fault: Fault) -> Refusal
+        ensures fault { result.fault ≡ fault }
+        ensures number { IfSome result.number (λ number. (fault ≡ Size) × (fits self.now number ≡ false)) }
+        ensures none { fault ≡ Size → IfNone result.number (all_fit self.now ≡ true) }
+    {
+        let number = match fault {
+            Fault::Size => self.out_of_range(),
+            _ => None,
+        };
+        Refusal { fault, number }
+    }
+
     // Whether a number is in its range.
     #[tactic(auto, unfolding(crate::specs::Configs::fits))]
     fn fits(&self, number: Number) -> bool
@@ -126,8 +144,9 @@ impl Config {
     }
 
     /// What [`run_threads`](crate::run_threads) opens for these numbers: an opening with a slot and a rider for each
-    /// thread, four riders for the crew and one for [`finish`](crate::Work::finish), and the duty of the crew.
-    /// [`with_threads`](crate::with_threads) would run a thread for that rider, too: take 1 from `riders` for it.
+    /// thread, four riders for the crew, one for [`finish`](crate::Work::finish) and one to flush at the end, if that is
+    /// wanted, and the duty of the crew. [`with_threads`](crate::with_threads) would run a thread for each of the last two,
+    /// too: take them from `riders` for it.
     ///
     /// Fault: `Size` if a number is out of its range. [`out_of_range`](Config::out_of_range) says which.
     pub fn checked(&self) -> Result<(Opening, Duty), Fault>
@@ -145,11 +164,18 @@ impl Config {
         let duty = Duty::checked(params, self.mutable, self.resident).ok_or(Fault::Size)?;
         let opening = Opening {
             params,
-            riders: self.threads + 5,
+            riders: self.threads + 4 + self.behind(),
             journal: self.journal,
             stamp: self.stamp,
         };
         Ok((opening, duty.cutting_above(self.most_steps())))
+    }
+
+    // How many riders stand behind those of the threads and the crew.
+    fn behind(&self) -> u64
+        ensures { result ≡ behind self.now.flush_at_end }
+    {
+        if self.flush_at_end { 2 } else { 1 }
     }
 
     // How many steps the crew leaves in the journal at a turn's end. A session with 32 touches needs room for 33: if
@@ -158,6 +184,23 @@ impl Config {
         ensures { result ≡ most_steps self.now }
     {
         (self.journal / 2).min(self.journal.saturating_sub(STEPS_LEAST))
+    }
+}
+
+/// Why a log wasn't run. It is displayed as its fault, and the number of its configuration that is out of range, if that is
+/// why.
+#[derive(Clone, Copy, Debug, PartialEq, Eq)]
+pub struct Refusal {
+    pub fault: Fault,
+    pub number: Option<Number>,
+}
+
+impl fmt::Display for Refusal {
+    fn fmt<W: fmt::Write>(&self, f: &mut fmt::Formatter<W>) -> fmt::Result {
+        match self.number {
+            Some(number) => write!(f, "{}: {number}", self.fault),
+            None => write!(f, "{}", self.fault),
+        }
     }
 }
 

@@ -4,7 +4,7 @@ ghost use Rattle.hl.specs.Evictions.{EvictedWereFlushed, LoadedEvictedWereFlushe
 ghost use Rattle.hl.specs.Left.{WordsAreRecords};
 ghost use Rattle.hl.specs.Overs.{OverWereDone};
 ghost use Rattle.hl.specs.Scans.{RecordsAreScanned};
-ghost use Rattle.hl.specs.Threads.{ThreadsAreOne};
+ghost use Rattle.hl.specs.Threads.{AllIsWritten, ThreadsAreOne};
 ghost use Rattle.hl.specs.Uses.{AppendsMore, CountersEndAsSums, ThreadsAppend};
 ghost use Rattle.hl.specs.Waits.{SafeAfterAllMovedOn};
 
@@ -48,6 +48,13 @@ pub fn over_were_done()
 /// [`with_threads`](crate::with_threads) and [`with_memory`](crate::with_memory) say so of their own results.
 pub fn threads_are_one<R: Wait, P: Work<R>>(_work: &P)
     ensures { ThreadsAreOne P.Job (P.returns _work.now) (P.took _work.now) }
+{}
+
+/// Each record is on the device, if the log was flushed up to its tail ([`Finished::flushed`](crate::Finished::flushed) is
+/// `Ok`): of each word of a record that a thread placed the device took the image of its page, with the words that the
+/// threads' one trace leaves there.
+pub fn all_is_written<R: Wait, P: Work<R>>(_work: &P)
+    ensures { AllIsWritten P.Job (P.took _work.now) }
 {}
 
 /// A counter that all threads of a work only add to ends as the sum of what they say that they added, modulo 2^64, wherever

@@ -27,6 +27,7 @@
 //! A value without it (a [`Load`], a [`Broom`], a [`Ready`]) is recognised by the log's stamp.
 #![tactic(auto)]
 
+mod at_end;
 mod config;
 mod finished;
 pub mod laws;
@@ -35,19 +36,21 @@ mod log;
 mod memory;
 mod open;
 mod opening;
+mod outcome;
 mod part;
 mod refused;
 mod reports;
 mod rows;
 mod session;
 mod shared;
+mod signals;
 mod sink;
 mod threads;
 mod told;
 mod work;
 
-pub use config::{Config, Number};
-pub use finished::{Finished, run_threads};
+pub use config::{Config, Number, Refusal};
+pub use finished::run_threads;
 pub use hl_action::{AnyAnswer, NoJob};
 /// The ticket of an action, and the safe epoch under which it is run.
 pub use hl_action::Firing;
@@ -106,6 +109,7 @@ pub use log::Log;
 pub use memory::{MemoryDevice, Written, with_memory};
 pub use open::{Closed, with_log};
 pub use opening::Opening;
+pub use outcome::Finished;
 pub use part::Part;
 pub use refused::Refused;
 pub use reports::report;

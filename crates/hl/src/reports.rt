@@ -5,7 +5,7 @@ ghost use Rattle.std.specs.Io.KnownBytes.{Appends};
 ghost use Rattle.hl_model.specs.declared.fault.Fault.TheVariants.{Stream};
 ghost use Rattle.hl_line.specs.Streams.{BreaksOff};
 ghost use Rattle.hl_monitor.specs.Reports.{report_text};
-ghost use Rattle.hl.specs.Reports.{action_text, holder_text, oldest_text, Reports};
+ghost use Rattle.hl.specs.Reports.{action_text, holder_text, oldest_text, refused_text, Reports};
 
 use crate::log::Log;
 use hl_action::{Promise, Task};
@@ -59,6 +59,19 @@ pub(crate) fn put_report<W: Write>(
         Ok(()) => put_oldest(writer, oldest, holders),
         Err(fault) => Err(fault),
     }
+}
+
+/// Writes how many of the newest writes the device refused, one after another, if it refused any.
+pub(crate) fn put_refused<W: Write>(writer: &mut W, refused: u64) -> Result<(), Fault>
+    ensures ok { OnOk result (Appends (W.contents writer.old) (W.contents writer.new) (refused_text refused)) }
+    ensures err { IfErr result (λ fault. fault ≡ Stream) }
+    ensures left { OnErr result
+        (BreaksOff (W.contents writer.old) (W.contents writer.new) (refused_text refused)) }
+{
+    if refused == 0 {
+        return Ok(());
+    }
+    put_lines(writer, &[("refused_writes", refused)])
 }
 
 // Writes the lines of the oldest action, if there is one.

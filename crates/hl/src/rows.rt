@@ -1,7 +1,9 @@
 //! The rows that the threads of a log and its crew need, made before the first of them.
-ghost use Rattle.std.specs.Prelude.{◌≡◌, ◌++◌, ◌+◌, ◌∷◌, ◌≤◌, [], map, length, vec_capacity, IfOk, IfErr};
+ghost use Rattle.std.specs.Prelude.{◌≡◌, ◌++◌, ◌+◌, ◌∷◌, ◌<◌, ◌≤◌, [], map, length, vec_capacity, is_some, IfOk, IfErr};
 ghost use Rattle.hl_model.specs.declared.fault.Fault.TheVariants.{OutOfMemory};
 ghost use Rattle.hl_crew.specs.Riders.{riders_of};
+ghost use Rattle.hl.specs.Configs.{behind};
+ghost use Rattle.hl.specs.LastSession.{one_or_none};
 
 use crate::log::Log;
 use crate::shared::Outs;
@@ -71,12 +73,12 @@ pub(crate) struct Rows<L: Realm, T> {
     pub(crate) places: Vec<Place<L, T>>,
     /// Where the threads' results will stand.
     pub(crate) outs: Outs<T>,
-    /// Where all riders will stand, with room for one more.
+    /// Where all riders will stand, with room for two more.
     pub(crate) riders: Vec<Rider<L>>,
     ghost no_outs: { outs.items ≡ [] },
     ghost room_for_outs: { length places.items ≤ vec_capacity outs },
     ghost no_riders: { riders.items ≡ [] },
-    ghost room_for_riders: { length places.items + 5 ≤ vec_capacity riders },
+    ghost room_for_riders: { length places.items + 6 ≤ vec_capacity riders },
 }
 
 impl<L: Realm, T: Drop> Rows<L, T> {
@@ -100,7 +102,7 @@ impl<L: Realm, T: Drop> Rows<L, T> {
         let buffers = CrewBuffers::open(alloc, log)?;
         let threads = riders.len() as u64;
         let outs = with_room(alloc, threads)?;
-        let back = with_room(alloc, threads + 5)?;
+        let back = with_room(alloc, threads + 6)?;
         let places = places_of(with_room(alloc, threads)?, riders);
         Ok(Rows {
             crew: CrewParts {
@@ -114,11 +116,13 @@ impl<L: Realm, T: Drop> Rows<L, T> {
     }
 }
 
-/// The same with one rider more, who finishes the log, and a row for what all threads returned.
+/// The same with one rider more, who finishes the log, one who flushes it before, if that is wanted, and a row for what all
+/// threads returned.
 #[derive(Drop)]
 pub(crate) struct LastRows<L: Realm, T> {
     pub(crate) rows: Rows<L, T>,
     pub(crate) last: Rider<L>,
+    pub(crate) flusher: Option<Rider<L>>,
     /// Where the values will stand that the threads returned.
     pub(crate) all: Vec<T>,
     ghost none: { all.items ≡ [] },
@@ -126,27 +130,54 @@ pub(crate) struct LastRows<L: Realm, T> {
 }
 
 impl<L: Realm, T: Drop> LastRows<L, T> {
-    /// The rows for these riders, the last of which finishes, and the four before it are the crew's.
+    /// The rows for these riders, the last of which flushes, if that is wanted, the one before it finishes, and the four
+    /// before that are the crew's.
     ///
     /// Fault: `OutOfMemory` if memory was refused.
     pub(crate) fn open<F: Task>(
         alloc: Global,
         log: &Log<L, F>,
         mut riders: Vec<Rider<L>>,
+        flush: bool,
     ) -> Result<LastRows<L, T>, Fault>
-        requires five { 5 ≤ length riders.items }
+        requires enough { 4 + behind flush ≤ length riders.items }
         requires few { length riders.items ≤ 2048 }
         ensures same { IfOk result (λ all. (map (λ place. place.1) all.rows.places.items
-            ++ riders_of all.rows.crew.riders) ++ all.last ∷ [] ≡ riders.items) }
+            ++ riders_of all.rows.crew.riders) ++ all.last ∷ one_or_none all.flusher ≡ riders.items) }
+        ensures flusher { IfOk result (λ all. is_some all.flusher ≡ flush) }
         ensures memory { IfErr result (λ fault. fault ≡ OutOfMemory) }
     {
-        let Some(last) = riders.pop() else {
-            unreachable!()
-        };
+        let flusher = pop_if(&mut riders, flush);
+        let last = pop_last(&mut riders);
         let rows = Rows::open(alloc, log, riders)?;
         let all = with_room(alloc, rows.places.len() as u64)?;
-        Ok(LastRows { rows, last, all })
+        Ok(LastRows {
+            rows,
+            last,
+            flusher,
+            all,
+        })
     }
+}
+
+// Takes the last rider.
+fn pop_last<L: Realm>(riders: &mut Vec<Rider<L>>) -> Rider<L>
+    requires { 0 < length riders.old.items }
+    ensures { riders.old.items ≡ riders.new.items ++ result ∷ [] }
+{
+    let Some(last) = riders.pop() else {
+        unreachable!()
+    };
+    last
+}
+
+// Takes the last rider, if that is wanted.
+fn pop_if<L: Realm>(riders: &mut Vec<Rider<L>>, wanted: bool) -> Option<Rider<L>>
+    requires { behind wanted ≤ length riders.old.items + 1 }
+    ensures popped { riders.old.items ≡ riders.new.items ++ one_or_none result }
+    ensures wanted { is_some result ≡ wanted }
+{
+    if wanted { riders.pop() } else { None }
 }
 
 // A place for each of these riders, put into an empty row with room for them.

@@ -12,6 +12,7 @@ ghost use Rattle.hl.specs.Sessions.{alone, beside_of, with_pass, Asked, Entered,
 mod away;
 mod bell;
 mod beside;
+mod flush;
 mod help;
 mod leave;
 mod over;

@@ -7,17 +7,21 @@ ghost use Rattle.hl_crew.specs.Riders.{riders_of};
 ghost use Rattle.hl.specs.Closings.{AreLeft, CrewHasWorked, HasServed, HaveWorked, Tells, TellsCrew};
 ghost use Rattle.hl.specs.declared.sink.Sink.{Sink};
 ghost use Rattle.hl.specs.Devices.{device_has, has_page};
+ghost use Rattle.hl.specs.Flushes.{flush_rounds, keeps_any, FlushesLog};
+ghost use Rattle.hl.specs.LastSession.{TellsFlush};
 ghost use Rattle.hl.specs.Sessions.{beside_crew};
 
+use crate::at_end::FlushTold;
 use crate::log::Log;
 use crate::memory::MemoryDevice;
 use crate::refused::Refused;
 use crate::rows::{CrewParts, Place, Rows, Worked, part};
 use crate::session::{Beside, Session};
+use crate::signals::Signals;
 use crate::sink::{Named, Sink};
 use crate::told::Told;
 use crate::work::Work;
-use hl_crew::{Crew, CrewReport, CrewRiders, Duty, OpenGate, Stop};
+use hl_crew::{Crew, CrewReport, CrewRiders, Duty, OpenGate};
 use hl_model::Fault;
 use hl_words::{Realm, Rider};
 use std::alloc::Global;
@@ -48,6 +52,9 @@ type Served<L> = (
     Result<CrewReport, Fault>,
 );
 
+// What the threads left, and the rider that flushed the log behind them, if there is one.
+type Worker<L, T> = (Vec<Place<L, T>>, Option<FlushTold<L>>);
+
 /// What the threads of a log and its crew work with.
 #[derive(Drop)]
 pub(crate) struct Shared<'x, R, P> {
@@ -75,7 +82,32 @@ impl<R: Threads + Wait + Sync, P: Work<R> + Sync> Shared<'_, R, P> {
         ensures left { AreLeft P.Job log.now (is_some self.now.duty.cut_above)
             (P.returns self.now.work.now) (P.took self.now.work.now)
             (length rows.places.items + 4) result.0 result.1.items }
-        ensures room { length rows.places.items + 5 ≤ vec_capacity result.1 }
+        ensures room { length rows.places.items + 6 ≤ vec_capacity result.1 }
+    {
+        let (left, riders, _) = self.run_and_flush(log, rows, device, None);
+        (left, riders)
+    }
+
+    /// The same; and once all threads have ended this rider flushes the whole log, while the crew still serves.
+    pub(crate) fn run_and_flush<L: Realm + Send + Sync>(
+        &self,
+        log: &Log<L, P::Job>,
+        rows: Rows<L, P::Out>,
+        device: Option<MemoryDevice>,
+        flusher: Option<Rider<L>>,
+    ) -> (Left<P::Out>, Vec<Rider<L>>, Option<FlushTold<L>>)
+        requires new { let all = map (λ place. place.1) rows.places.items ++ riders_of rows.crew.riders
+            in all ≡ new_riders (length all) }
+        requires duty { self.now.duty.frames ≡ log.now.sizes.frames }
+        requires enters { IfSome flusher (RiderTraces log.now.sizes) }
+        ensures kind { is_some result.0.1 ≡ is_some device }
+        ensures crew { TellsCrew self.now.duty result.0.0.crew }
+        ensures left { AreLeft P.Job log.now (is_some self.now.duty.cut_above)
+            (P.returns self.now.work.now) (P.took self.now.work.now)
+            (length rows.places.items + 4) result.0 result.1.items }
+        ensures room { length rows.places.items + 6 ≤ vec_capacity result.1 }
+        ensures flushed { TellsFlush P.Job log.now (is_some self.now.duty.cut_above)
+            (FlushesLog P.Job P.Job.gives keeps_any flush_rounds) flusher result.2 }
     {
         let Rows {
             crew,
@@ -83,7 +115,7 @@ impl<R: Threads + Wait + Sync, P: Work<R> + Sync> Shared<'_, R, P> {
             outs,
             riders,
         } = rows;
-        let stop = Stop::new();
+        let signals = Signals::new();
         // If the first one's thread can't be made, it runs after the second: a crew that ran first would wait for its stop.
         let ((crew, device, served), told) = thread::join(
             self.rt,
@@ -92,33 +124,45 @@ impl<R: Threads + Wait + Sync, P: Work<R> + Sync> Shared<'_, R, P> {
                 ensures { HasServed self.entry.now.duty log.entry.now.sizes
                     (device_has (P.took self.entry.now.work.now) result.1)
                     (riders_of crew.riders) (riders_of result.0) result.2 × (is_some result.1 ≡ is_some device) }
-            { self.serve_behind(log, crew, device, &stop) },
-            || -> Told<Vec<Place<L, P::Out>>>
-                requires { AllByRecursion (RiderTraces log.now.sizes) (map (λ place. place.1) places.items) }
-                ensures { HaveWorked P.Job log.entry.now (is_some self.entry.now.duty.cut_above)
+            { self.serve_behind(log, crew, device, &signals) },
+            || -> Told<Worker<L, P::Out>>
+                requires threads { AllByRecursion (RiderTraces log.now.sizes) (map (λ place. place.1) places.items) }
+                requires flusher { IfSome flusher (RiderTraces log.now.sizes) }
+                ensures worked { HaveWorked P.Job log.entry.now (is_some self.entry.now.duty.cut_above)
                     (P.returns self.entry.now.work.now)
-                    (map (λ place. place.1) places.items) result.left.items }
-            { self.work_all(log, places, &stop) },
+                    (map (λ place. place.1) places.items) result.left.0.items }
+                ensures flushed { TellsFlush P.Job log.entry.now (is_some self.entry.now.duty.cut_above)
+                    (FlushesLog P.Job P.Job.gives keeps_any flush_rounds) flusher result.left.1 }
+            { self.work_all(log, places, flusher, &signals) },
         );
-        let (outs, mut riders) = part(told.into_left(), outs, riders);
+        let (worked, flushed) = told.into_left();
+        let (outs, mut riders) = part(worked, outs, riders);
         crew.put_back_reserved(&mut riders);
         let returned = Returned { outs, crew: served };
-        ((returned, device), riders)
+        ((returned, device), riders, flushed)
     }
 
-    // Each rider's thread, in its place, and then the crew's stop.
+    // Each rider's thread, in its place, then the flush of the log, and then the crew's stop.
     fn work_all<L: Realm + Send + Sync>(
         &self,
         log: &Log<L, P::Job>,
         mut places: Vec<Place<L, P::Out>>,
-        stop: &Stop,
-    ) -> Told<Vec<Place<L, P::Out>>>
-        requires { AllByRecursion (RiderTraces log.now.sizes) (map (λ place. place.1) places.items) }
-        ensures { HaveWorked P.Job log.now (is_some self.now.duty.cut_above)
-            (P.returns self.now.work.now) (map (λ place. place.1) places.items) result.left.items }
+        flusher: Option<Rider<L>>,
+        signals: &Signals,
+    ) -> Told<Worker<L, P::Out>>
+        requires threads { AllByRecursion (RiderTraces log.now.sizes) (map (λ place. place.1) places.items) }
+        requires flusher { IfSome flusher (RiderTraces log.now.sizes) }
+        ensures worked { HaveWorked P.Job log.now (is_some self.now.duty.cut_above)
+            (P.returns self.now.work.now) (map (λ place. place.1) places.items) result.left.0.items }
+        ensures flushed { TellsFlush P.Job log.now (is_some self.now.duty.cut_above)
+            (FlushesLog P.Job P.Job.gives keeps_any flush_rounds) flusher result.left.1 }
     {
-        self.work_each(log, &mut places, stop);
-        Told::of(places, stop)
+        self.work_each(log, &mut places, signals);
+        let flushed = match flusher {
+            Some(rider) => Some(self.flush_one(log, rider, signals)),
+            None => None,
+        };
+        Told::of((places, flushed), &signals.stop)
     }
 
     // Each rider's thread: at each place stands then what the thread returned, and its rider.
@@ -126,7 +170,7 @@ impl<R: Threads + Wait + Sync, P: Work<R> + Sync> Shared<'_, R, P> {
         &self,
         log: &Log<L, P::Job>,
         places: &mut [Place<L, P::Out>],
-        stop: &Stop,
+        signals: &Signals,
     )
         requires { AllByRecursion (RiderTraces log.now.sizes) (map (λ place. place.1) places.old) }
         ensures { HaveWorked P.Job log.now (is_some self.now.duty.cut_above)
@@ -141,7 +185,7 @@ impl<R: Threads + Wait + Sync, P: Work<R> + Sync> Shared<'_, R, P> {
                 requires { RiderTraces log.now.sizes place.now.1 }
                 ensures { Tells P.Job log.entry.now beside_crew (is_some self.entry.now.duty.cut_above)
                     (P.returns self.entry.now.work.now number) place.entry.now.1 place.exit.now.1 place.exit.now.0 }
-            { self.work_at(log, place, number as u64, stop) },
+            { self.work_at(log, place, number as u64, signals) },
         );
     }
 
@@ -151,7 +195,7 @@ impl<R: Threads + Wait + Sync, P: Work<R> + Sync> Shared<'_, R, P> {
         log: &Log<L, P::Job>,
         place: &mut Place<L, P::Out>,
         number: u64,
-        stop: &Stop,
+        signals: &Signals,
     )
         requires { RiderTraces log.now.sizes place.old.1 }
         ensures { Tells P.Job log.now beside_crew (is_some self.now.duty.cut_above)
@@ -160,7 +204,7 @@ impl<R: Threads + Wait + Sync, P: Work<R> + Sync> Shared<'_, R, P> {
         let Some((_, rider)) = place.held.take() else {
             unreachable!()
         };
-        place.held = Some(self.work_one(log, rider, number, stop));
+        place.held = Some(self.work_one(log, rider, number, signals));
     }
 
     // A thread's time in its session, which it leaves by tries if the duty cuts: others may fill the journal meanwhile.
@@ -169,13 +213,13 @@ impl<R: Threads + Wait + Sync, P: Work<R> + Sync> Shared<'_, R, P> {
         log: &Log<L, P::Job>,
         rider: Rider<L>,
         number: u64,
-        stop: &Stop,
+        signals: &Signals,
     ) -> Worked<L, P::Out>
         requires { RiderTraces log.now.sizes rider }
         ensures { Tells P.Job log.now beside_crew (is_some self.now.duty.cut_above)
             (P.returns self.now.work.now number) rider result.1 result.0 }
     {
-        let mut session = match Session::enter_beside(self.rt, log, rider, Beside::crew(stop)) {
+        let mut session = match Session::enter_beside(self.rt, log, rider, Beside::crew(signals)) {
             Ok(session) => session,
             Err(Refused { fault, back }) => return (Err(fault), back),
         };
@@ -195,14 +239,14 @@ impl<R: Threads + Wait + Sync, P: Work<R> + Sync> Shared<'_, R, P> {
         log: &Log<L, P::Job>,
         parts: CrewParts<L>,
         device: Option<MemoryDevice>,
-        stop: &Stop,
+        signals: &Signals,
     ) -> Served<L>
         requires { self.now.duty.frames ≡ log.now.sizes.frames }
         ensures { HasServed self.now.duty log.now.sizes (device_has (P.took self.now.work.now) result.1)
             (riders_of parts.riders) (riders_of result.0)
             result.2 × (is_some result.1 ≡ is_some device) }
     {
-        self.serve_named::<Brand, L>(log, parts, device, stop)
+        self.serve_named::<Brand, L>(log, parts, device, signals)
     }
 
     // The same, with page writers that name the work.
@@ -211,7 +255,7 @@ impl<R: Threads + Wait + Sync, P: Work<R> + Sync> Shared<'_, R, P> {
         log: &Log<L, P::Job>,
         parts: CrewParts<L>,
         device: Option<MemoryDevice>,
-        stop: &Stop,
+        signals: &Signals,
     ) -> Served<L>
         requires duty { self.now.duty.frames ≡ log.now.sizes.frames }
         requires work { T.work ≡ Some self.now.work.now }
@@ -228,10 +272,17 @@ impl<R: Threads + Wait + Sync, P: Work<R> + Sync> Shared<'_, R, P> {
         let CrewParts { riders, buffers } = parts;
         let crew = Crew {
             riders,
-            first: Sink::<R, P, T>::new(self.rt, self.work, first),
-            second: Sink::<R, P, T>::new(self.rt, self.work, second),
+            first: Sink::<R, P, T>::new(self.rt, self.work, first, &signals.refusals),
+            second: Sink::<R, P, T>::new(self.rt, self.work, second, &signals.refusals),
         };
-        let (crew, served) = crew.serve_with(self.rt, buffers, log, &OpenGate, self.duty, stop);
+        let (crew, served) = crew.serve_with(
+            self.rt,
+            buffers,
+            log,
+            &OpenGate,
+            self.duty,
+            &signals.stop,
+        );
         let first = crew.first.into_memory();
         let device = MemoryDevice::of_parts(first, crew.second.into_memory());
         (crew.riders, device, served)

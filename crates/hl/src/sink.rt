@@ -1,6 +1,7 @@
 //! Where a crew's two writers write the pages of a log with threads.
 ghost use Rattle.std.specs.Prelude.{◌≡◌, ◌≤◌, ◌^◌, Some, is_some};
 
+use crate::signals::Refusals;
 use crate::work::Work;
 use hl_image::{MemoryWriter, PageWriter, with_one_more};
 use hl_model::Fault;
@@ -30,6 +31,7 @@ pub(crate) struct Sink<'a, R, P, T: Named<P>> {
     rt: &'a R,
     work: &'a P,
     memory: Option<MemoryWriter>,
+    refusals: &'a Refusals,
     failures: u64,
     named: PhantomData<T>,
     ghost within: { failures ≤ 2 ^ 62 },
@@ -38,8 +40,13 @@ pub(crate) struct Sink<'a, R, P, T: Named<P>> {
 }
 
 impl<'a, R: Wait, P: Work<R>, T: Named<P>> Sink<'a, R, P, T> {
-    /// Each page goes to this memory, or to the device of the work if there is none.
-    pub(crate) fn new(rt: &'a R, work: &'a P, memory: Option<MemoryWriter>) -> Sink<'a, R, P, T>
+    /// Each page goes to this memory, or to the device of the work if there is none. What is refused is noted here, too.
+    pub(crate) fn new(
+        rt: &'a R,
+        work: &'a P,
+        memory: Option<MemoryWriter>,
+        refusals: &'a Refusals,
+    ) -> Sink<'a, R, P, T>
         requires work { T.work ≡ Some work.now }
         requires kind { is_some memory ≡ T.in_memory }
         ensures { result.memory ≡ memory }
@@ -48,6 +55,7 @@ impl<'a, R: Wait, P: Work<R>, T: Named<P>> Sink<'a, R, P, T> {
             rt,
             work,
             memory,
+            refusals,
             failures: 0,
             named: PhantomData,
         }
@@ -80,6 +88,7 @@ impl<'a, R: Wait, P: Work<R>, T: Named<P>> PageWriter for Sink<'a, R, P, T> {
             Some(memory) => memory.write_page(page, bytes).is_ok(),
             None => self.work.write_page(self.rt, page, bytes),
         };
+        self.refusals.note(written);
         if written {
             return Ok(());
         }

@@ -17,7 +17,17 @@ impl<'a, R, L: Realm, F: Task, P: Promise, E: Epochs + Drop> Session<'a, R, L, F
     /// [`Stop`](hl_crew::Stop::ring) at hand.
     pub fn ring(&self) {
         if let Some(bell) = self.beside.bell {
-            bell.ring();
+            bell.stop.ring();
+        }
+    }
+
+    /// How many of the crew's newest writes the device refused, one after another, without the lock: 0 once it takes one, and
+    /// in a session beside which no crew of [`with_threads`](crate::with_threads) serves. While it isn't 0 no frame comes
+    /// free, and a session that was told `Busy` waits for the device.
+    pub fn refused_writes(&self) -> u64 {
+        match self.beside.bell {
+            Some(bell) => bell.refusals.in_a_row(),
+            None => 0,
         }
     }
 

@@ -3,13 +3,14 @@ ghost use Rattle.std.specs.Prelude.{◌≡◌};
 ghost use Rattle.hl_crew.specs.Limited.{duty_cuts};
 ghost use Rattle.hl.specs.Sessions.{alone, beside_crew, beside_of, without_crew};
 
-use hl_crew::{Cuts, Duty, Stop};
+use crate::signals::Signals;
+use hl_crew::{Cuts, Duty};
 
 /// A crew that the session wakes; or none, and then how the session cuts the journal itself.
 #[derive(Clone, Copy)]
 pub(crate) struct Beside<'a> {
-    /// What wakes the crew, if there is one.
-    pub(super) bell: Option<&'a Stop>,
+    /// What wakes the crew, and what that tells of its device, if there is one.
+    pub(super) bell: Option<&'a Signals>,
     /// How the session cuts the journal: never beside a crew, which cuts it.
     pub(super) cuts: Cuts,
 }
@@ -25,12 +26,12 @@ impl<'a> Beside<'a> {
         }
     }
 
-    /// A crew that ends by this stop.
-    pub(crate) fn crew(stop: &'a Stop) -> Beside<'a>
+    /// A crew with these signals.
+    pub(crate) fn crew(signals: &'a Signals) -> Beside<'a>
         ensures { beside_of result.bell result.cuts ≡ beside_crew }
     {
         Beside {
-            bell: Some(stop),
+            bell: Some(signals),
             cuts: Cuts::Never,
         }
     }

@@ -6,7 +6,7 @@ ghost use Rattle.hl.specs.Sessions.{KeepsAllButRider};
 ghost use Rattle.hl.specs.Traces.{Meets, OnlyMeets};
 
 use super::Session;
-use crate::reports::{HOLDERS, put_report};
+use crate::reports::{HOLDERS, put_refused, put_report};
 use hl_action::{Promise, Task};
 use hl_domain::{ArrayVec, FrameState, Holder};
 use hl_epoch::Epochs;
@@ -47,7 +47,8 @@ impl<'a, R: Wait, L: Realm, F: Task, P: Promise, E: Epochs + Drop> Session<'a, R
     }
 
     /// Writes what the log is at, as [`report`](crate::report) does: by two calls of the session, the second of which met
-    /// no earlier list than the first.
+    /// no earlier list than the first. Behind it stands a line `refused_writes`, if the device refuses what the crew writes
+    /// ([`refused_writes`](Session::refused_writes)).
     ///
     /// Fault: `Stream` if a write failed or took no byte; a beginning of the report was then written, and not all of it.
     pub fn report<W: Write>(&mut self, writer: &mut W) -> Result<(), Fault>
@@ -59,6 +60,10 @@ impl<'a, R: Wait, L: Realm, F: Task, P: Promise, E: Epochs + Drop> Session<'a, R
         let told = self.snapshot();
         let mut holders = ArrayVec::<Holder, HOLDERS>::new();
         let oldest = self.holders(&mut holders);
-        put_report(writer, &told, oldest, holders.as_slice())
+        let refused = self.refused_writes();
+        match put_report(writer, &told, oldest, holders.as_slice()) {
+            Ok(()) => put_refused(writer, refused),
+            Err(fault) => Err(fault),
+        }
     }
 }

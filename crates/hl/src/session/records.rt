@@ -5,7 +5,7 @@ ghost use Rattle.hl_model.specs.Replies.{unless_fault};
 ghost use Rattle.hl_keeper.specs.Passes.{store_fault};
 ghost use Rattle.hl_domain.specs.Words.{HasStored};
 ghost use Rattle.hl.specs.Records.{row_fault, with_loads, AreStored, RefusesStore, StopsAt, Places, Appends};
-ghost use Rattle.hl.specs.Sessions.{with_pass};
+ghost use Rattle.hl.specs.Sessions.{tail_seen, with_pass};
 ghost use Rattle.hl_traces.specs.Records.{loads_from};
 ghost use Rattle.hl.specs.Traces.{acts, AppendsBy, Does, OnlyMeets, PlacesBy, Stores, StoresSome};
 
@@ -20,7 +20,9 @@ use std::sync::Wait;
 const PLACES_ANEW: u32 = 63;
 
 impl<'a, R: Wait, L: Realm, F: Task, P: Promise, E: Epochs + Drop> Session<'a, R, L, F, P, E> {
-    /// Places a record and stores its words. Returns the address of its first word. The record is on one page.
+    /// Places a record and stores its words. Returns the address of its first word. The record is on one page, and not below
+    /// the tail that the session saw. It ends at the tail that the session then sees, or below: so a session's next record
+    /// lies above this one.
     ///
     /// A session has room for 32 touches, so it refreshes before a word for which it has none. If the record has become
     /// read-only by then, it is placed anew, at most 63 times. What was stored of it before stays as it is, at a place of
@@ -32,6 +34,8 @@ impl<'a, R: Wait, L: Realm, F: Task, P: Promise, E: Epochs + Drop> Session<'a, R
     pub fn append(&mut self, words: &[u64]) -> Result<u64, Fault>
         ensures appended { Appends F self.old.log words.now 63 self.old.pass self.new.pass result }
         ensures did { AppendsBy 63 words.now result self.old self.new }
+        ensures above { IfOk result (λ address. tail_seen self.old ≤ address) }
+        ensures sees { IfOk result (λ address. address + length words.now ≤ tail_seen self.new) }
         ensures within { IfOk result (λ address. address + length words.now ≤ 2 ^ 48) }
         ensures one_page { let page_size = self.old.log.sizes.page_size
             in IfOk result (λ a. a / page_size ≡ (a + length words.now - 1) / page_size) }
@@ -51,6 +55,9 @@ impl<'a, R: Wait, L: Realm, F: Task, P: Promise, E: Epochs + Drop> Session<'a, R
     fn place(&mut self, words: &[u64]) -> Result<u64, Fault>
         ensures places { Places F self.old.log words.now self.old.pass self.new.pass result }
         ensures did { PlacesBy words.now result self.old self.new }
+        ensures rises { tail_seen self.old ≤ tail_seen self.new }
+        ensures above { IfOk result (λ address. tail_seen self.old ≤ address) }
+        ensures sees { IfOk result (λ address. address + length words.now ≤ tail_seen self.new) }
         ensures within { IfOk result (λ address. address + length words.now ≤ 2 ^ 48) }
         ensures one_page { let page_size = self.old.log.sizes.page_size
             in IfOk result (λ a. a / page_size ≡ (a + length words.now - 1) / page_size) }
@@ -75,6 +82,7 @@ impl<'a, R: Wait, L: Realm, F: Task, P: Promise, E: Epochs + Drop> Session<'a, R
             (λ fault. StopsAt F self.old.log address words.now fault self.old.pass self.new.pass) }
         ensures did { MatchResult result (λ _. Stores address words.now self.old self.new)
             (λ _. StoresSome address words.now self.old self.new) }
+        ensures rises { tail_seen self.old ≤ tail_seen self.new }
         ensures log { self.new.log ≡ self.old.log }
         ensures beside { self.new.beside ≡ self.old.beside }
     {
@@ -97,6 +105,7 @@ impl<'a, R: Wait, L: Realm, F: Task, P: Promise, E: Epochs + Drop> Session<'a, R
             (λ fault. RefusesStore F self.old.log address fault self.old.pass self.new.pass) }
         ensures did { MatchResult result (λ _. Stores address (word ∷ []) self.old self.new)
             (λ _. OnlyMeets self.old self.new) }
+        ensures rises { tail_seen self.old ≤ tail_seen self.new }
         ensures log { self.new.log ≡ self.old.log }
         ensures beside { self.new.beside ≡ self.old.beside }
     {
@@ -117,6 +126,7 @@ impl<'a, R: Wait, L: Realm, F: Task, P: Promise, E: Epochs + Drop> Session<'a, R
             (λ fault. RefusesStore F self.old.log address fault self.old.pass self.new.pass) }
         ensures did { MatchResult result (λ _. Stores address (word ∷ []) self.old self.new)
             (λ _. OnlyMeets self.old self.new) }
+        ensures rises { tail_seen self.old ≤ tail_seen self.new }
         ensures log { self.new.log ≡ self.old.log }
         ensures beside { self.new.beside ≡ self.old.beside }
     {

@@ -1,7 +1,7 @@
 //! Operations that are tried again.
 ghost use Rattle.std.specs.Prelude.{◌≡◌, true, is_some};
 ghost use Rattle.std.specs.Fn.{CalledAtMut};
-ghost use Rattle.hl.specs.Attempts.{cure_of, Attempts, SessionHelps};
+ghost use Rattle.hl.specs.Attempts.{cure_of, told_if_refused, Attempts, SessionHelps};
 ghost use Rattle.hl.specs.Helps.{in_vain, Helps};
 ghost use Rattle.hl.specs.Traces.{OnlyMeets};
 
@@ -28,7 +28,7 @@ pub enum Cure {
 
 /// Why an operation is refused that may be tried again: a [`Fault`], or an error of the engine's own.
 pub trait Curable {
-    ghost use Rattle.std.specs.Prelude.{Option, ⊤};
+    ghost use Rattle.std.specs.Prelude.{Option, ⊤, ◌⊎◌, ◌≡◌};
     ghost use Rattle.hl.specs.declared.session.tries.Cure.{Cure as CURE};
 
     /// What holds of an error and of its cure: nothing, unless a program says so. If it says nothing of an
@@ -39,12 +39,34 @@ pub trait Curable {
     /// Returns what may cure it; `None` if nothing does.
     fn cure(&self) -> Option<Cure>
         ensures { cures self.now result };
+
+    /// What may be told in an error's place after the last try, if the device refuses what the crew writes: nothing else,
+    /// unless a program says otherwise.
+    ghost tells: { Self → Self → Type 0 } = { λ _ _. ⊥ };
+
+    /// Returns what is told in its place then: the same, unless a program says otherwise.
+    fn if_refused(self) -> Self
+    where
+        Self: Sized,
+        ensures { (result ≡ self) ⊎ tells self result }
+    {
+        self
+    }
 }
 
 /// `Beyond` and `TouchesFull` are cured by a refresh; `Busy`, `DrainFull`, `JournalFull` and `WindowFull` by others; no
-/// other fault is.
+/// other fault is. If the device refuses what the crew writes, `Busy` is told as `Device`: no frame comes free.
 impl Curable for Fault {
     ghost cures = { λ fault cure. cure ≡ cure_of fault };
+
+    ghost tells = { λ fault told. told ≡ told_if_refused fault };
+
+    fn if_refused(self) -> Fault {
+        match self {
+            Fault::Busy { .. } => Fault::Device,
+            _ => self,
+        }
+    }
 
     fn cure(&self) -> Option<Cure> {
         match self {
@@ -84,6 +106,11 @@ pub trait Helping {
     /// A round of help, and a short nap if others have to act and it ran no action.
     fn help_by(&mut self, cure: Cure) -> Helped
         ensures { helps self.old cure result self.new };
+
+    /// Returns whether the device refused the newest of what the crew wrote: no, unless a program says otherwise.
+    fn is_refused(&self) -> bool {
+        false
+    }
 }
 
 /// Runs an operation of a session, and again, at most `again` times, while it is refused for a reason that has a cure:
@@ -94,15 +121,16 @@ pub trait Helping {
 /// The operation begins anew each time: what an earlier try looked up isn't used again. A try that was refused holds no
 /// lock of the program's: a thread that waits for one can't refresh.
 ///
-/// Returns the last try's answer; an error without a cure is returned at once. What a round of help was refused isn't
-/// told: the next try meets it.
+/// Returns the last try's answer; an error without a cure is returned at once. If the device refuses what the crew writes by
+/// then ([`refused_writes`](Session::refused_writes)), a last `Busy` is told as `Device`. What a round of help was refused
+/// isn't told: the next try meets it.
 pub fn attempt<S: Helping, T, X: Curable + Drop, O: FnMut(&mut S) -> Result<T, X>>(
     session: &mut S,
     again: u32,
     mut operation: O,
 ) -> Result<T, X>
     requires callable { O.IsAlwaysCallable operation }
-    ensures attempted { Attempts (CalledAtMut O.FnMut) X.cures S.helps again
+    ensures attempted { Attempts (CalledAtMut O.FnMut) X.cures X.tells S.helps again
         result operation session.old session.new }
 {
     for _ in 0..again {
@@ -116,7 +144,16 @@ pub fn attempt<S: Helping, T, X: Curable + Drop, O: FnMut(&mut S) -> Result<T, X
             },
         }
     }
-    operation(session)
+    match operation(session) {
+        Ok(out) => Ok(out),
+        Err(error) => {
+            if session.is_refused() {
+                Err(error.if_refused())
+            } else {
+                Err(error)
+            }
+        }
+    }
 }
 
 impl<'a, R: Wait, L: Realm, F: Task, P: Promise, E: Epochs + Drop> Helping
@@ -130,6 +167,10 @@ impl<'a, R: Wait, L: Realm, F: Task, P: Promise, E: Epochs + Drop> Helping
             Cure::Others => nap_in_vain(self.rt, &answer),
         };
         Helped { answer, napped }
+    }
+
+    fn is_refused(&self) -> bool {
+        self.refused_writes() > 0
     }
 }
 

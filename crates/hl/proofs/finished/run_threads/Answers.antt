@@ -9,4 +9,4 @@ pub run_over-requires-clause-duty : goal.run_over-requires-clause-duty
 run_over-requires-clause-duty g c κs within = serves_of_run _ c.in-Ok.both.1 c.in-Ok.ensures.runs
 
 pub returns-clause-one : goal.returns-clause-one
-returns-clause-one g c fit = finished_one _ _ _ _ _ _ _ (sizes_in_range _ fit) (rw c.in-Ok.ensures.opening at c.run_over.ensures.finished)
+returns-clause-one g c fit = finished_one _ _ _ _ _ _ _ _ _ (λ old new out flushes. flushes.pads) (sizes_in_range _ fit) (rw c.in-Ok.ensures.opening at c.run_over.ensures.finished)

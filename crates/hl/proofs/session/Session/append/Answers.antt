@@ -7,7 +7,7 @@ use Rattle.hl.proofs.RecordActs.{none_tried, tried_again, appended}
 use Rattle.hl.proofs.session.Session.append.Goals as goal
 
 pub loop-init : goal.loop-init
-loop-init g c = (refl, refl, refl, none_tried c.args.words.now c.args.self.now)
+loop-init g c = (refl, refl, refl, none_tried c.args.words.now c.args.self.now, omega arith)
 
 pub loop-preserved : goal.loop-preserved
 loop-preserved g c =
@@ -23,6 +23,7 @@ loop-preserved g c =
         subst₂ (λ l r. Places F l words m q r) met.0 (c.in-Err-Below.is ∙ ap Err c.in-Err-Below.field-0-is) c.place.ensures.places,
       ),
       tried_again c.loop.counter words (Below c.in-Err-Below.field-0-0) c.args.self.now c.loop.self c.place.new.self met.3 (subst (λ r. PlacesBy words r c.loop.self c.place.new.self) (c.in-Err-Below.is ∙ ap Err c.in-Err-Below.field-0-is) c.place.ensures.did),
+      omega (arith, met.4, c.place.ensures.rises),
     )
 
 -- a fault, whichever it is
@@ -30,6 +31,8 @@ pub returns-in_default : goal.returns-in_default
 returns-in_default g c = record {
   appended = search rules;
   did = appended c.loop.counter 63 c.args.words.now (Err JournalFull) c.args.self.now c.loop.self c.place.new.self (omega (arith, c.loop-test.true, c.loop.auto.counter-end)) c.loop.invariant.3 c.in_default.ensures.did;
+  above = search rules;
+  sees = search rules;
   within = search rules;
   one_page = search rules;
   log = search rules;

@@ -1,7 +1,7 @@
-use Rattle.std.proofs.Common.{refl, ap}
-use Rattle.hl_keeper.specs.Passes.{store_fault}
+use Rattle.std.proofs.Common.{refl, ap, arith, ◌∙◌}
+use Rattle.hl_keeper.specs.Passes.{seen, store_fault}
 use Rattle.hl.specs.Sessions.{SessionState}
-use Rattle.hl.proofs.RecordLaws.{none_stored, store_answered}
+use Rattle.hl.proofs.RecordLaws.{none_stored, stored_tail, store_answered}
 use Rattle.std.proofs.Common.{Ok}
 use Rattle.hl.proofs.RecordActs.{stored_after, answered_after}
 use Rattle.hl.proofs.ActLaws.{meets_none}
@@ -31,3 +31,10 @@ returns-in_default-clause-did g c = meets_none c.args.self.now c.store.new.self 
 
 pub returns-in-TouchesFull-clause-did : goal.returns-in-TouchesFull-clause-did
 returns-in-TouchesFull-clause-did g c = answered_after c.args.address c.args.word c.store_refreshed.result c.args.self.now c.store.new.self c.store_refreshed.new.self c.in-Err.ensures.did c.store_refreshed.ensures.did
+
+pub returns-in-Ok-clause-rises : goal.returns-in-Ok-clause-rises
+returns-in-Ok-clause-rises g c =
+    let m = c.args.self.now in
+    let a = c.args.address in
+    let stored = ap (λ (s : SessionState). (seen s.pass).tail) c.store.ensures.stored.pass ∙ stored_tail m.log.sizes a c.args.word m.pass (store_fault m.pass a) in
+    omega (arith, stored)

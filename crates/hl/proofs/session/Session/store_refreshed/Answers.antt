@@ -1,9 +1,9 @@
-use Rattle.std.proofs.Common.{refl, ap, ◌∙◌}
+use Rattle.std.proofs.Common.{refl, ap, ◌∙◌, arith}
 use Rattle.hl_model.specs.Replies.{unless_refused}
-use Rattle.hl_keeper.specs.Passes.{store_fault, with_store}
+use Rattle.hl_keeper.specs.Passes.{PassRecord, seen, store_fault, with_rider, with_store}
 use Rattle.hl_domain.specs.Domains.{DomainState}
 use Rattle.hl.specs.Sessions.{SessionState}
-use Rattle.hl.proofs.RecordLaws.{made_room, refreshed, refresh_refused, store_answered}
+use Rattle.hl.proofs.RecordLaws.{made_room, held_tail, stored_tail, refreshed, refresh_refused, store_answered}
 use Rattle.hl.proofs.RecordActs.{stored_after}
 use Rattle.hl.proofs.ActLaws.{meets_one}
 use Rattle.hl.proofs.session.Session.store_refreshed.Goals as goal
@@ -26,3 +26,11 @@ returns-in-Ok-clause-did g c = stored_after c.args.address c.args.word c.store.r
 
 pub returns-in-Err-clause-did : goal.returns-in-Err-clause-did
 returns-in-Err-clause-did g c = meets_one c.args.self.now c.refresh.new.self c.in-Err.ensures.did
+
+pub returns-in-Ok-clause-rises : goal.returns-in-Ok-clause-rises
+returns-in-Ok-clause-rises g c =
+    let m = c.refresh.new.self in
+    let a = c.args.address in
+    let after = ap (λ (p : PassRecord). (seen p).tail) c.in-Ok.ensures.refreshed.pass ∙ held_tail m.pass.epoch c.in-Ok.field-0 (with_rider m.pass.rider c.args.self.now.pass) in
+    let stored = ap (λ (s : SessionState). (seen s.pass).tail) c.store.ensures.stored.pass ∙ stored_tail m.log.sizes a c.args.word m.pass (store_fault m.pass a) in
+    omega (arith, c.in-Ok.ensures.refreshed.fresh.2, after, stored)

@@ -7,4 +7,4 @@ use Rattle.hl.proofs.session.tries.attempt.Given as goal
 abbrev pub invariant-loop : goal.invariant-loop
 invariant-loop g l =
     goal.O-IsAlwaysCallable g l.operation
-    × Followed (TriesNext (CalledAtMut g.O.FnMut) g.X.Curable.cures g.S.Helping.helps) l.counter (l.fn.operation, l.fn.session) (l.operation, l.session)
+    × Followed (TriesNext (CalledAtMut g.O.FnMut) g.X.Curable.cures g.X.Curable.tells g.S.Helping.helps) l.counter (l.fn.operation, l.fn.session) (l.operation, l.session)

@@ -14,7 +14,7 @@ use Rattle.hl_crew.specs.Riders.{CutsNone, FlushesNone, MakesCrewSteps, RidersSt
 use Rattle.hl.specs.Devices.{device_has}
 use Rattle.hl.specs.Closings.{rider_at, AreReturned, CountReturned, FlushesTaken}
 use Rattle.hl.proofs.OutLaws.{threads_given, crew_given, new_sweeps, new_flushes, never_cuts, places_count, with_crew}
-use Rattle.hl.proofs.shared.Shared.run_all.Goals as goal
+use Rattle.hl.proofs.shared.Shared.run_and_flush.Goals as goal
 
 -- the threads' riders are new
 pub join-crew-requires-after_bounds : goal.join-crew-requires-after_bounds
@@ -23,7 +23,7 @@ join-crew-requires-after_bounds g c κs within =
     let olds = map (λ place. place.1) c.args.rows.places.items in
     let crew = riders_of c.args.rows.crew.riders in
     let fresh : AllByRecursion (RiderTraces sizes) olds = threads_given (RiderTraces sizes) (new_traces sizes) (length (olds ++ crew)) (olds ++ crew) olds crew c.requires.new refl in
-    ((c.requires.duty, search (rules, c.type_bounds, param_send, param_sync)), (fresh, search (rules, c.type_bounds, param_send, param_sync)))
+    ((c.requires.duty, search (rules, c.type_bounds, param_send, param_sync)), (fresh, (c.requires.enters, search (rules, c.type_bounds, param_send, param_sync))))
 
 pub returns-clause-left : goal.returns-clause-left
 returns-clause-left g c =
@@ -36,10 +36,10 @@ returns-clause-left g c =
     let total = length c.args.rows.places.items + 4 in
     let new : all ≡ new_riders total = c.requires.new ∙ ap new_riders (places_count c.args.rows.places.items c.args.rows.crew.riders) in
     let joined = c.join-crew.result.0 in
-    let worked = c.join-crew.result.1.left.items in
+    let worked = c.join-crew.result.1.left.0.items in
     let back = riders_of joined.0 in
     let Took = device_has (g.P.Work.took c.args.self.now.work.now) joined.1 in
-    let known : (length worked ≡ length olds) × AreReturned g.row.P-Job.Denot log may_cut Returns (rider_at olds) (map (λ one. one.0) worked) (map (λ one. one.1) worked) = c.join-crew.ensures.second in
+    let known : (length worked ≡ length olds) × AreReturned g.row.P-Job.Denot log may_cut Returns (rider_at olds) (map (λ one. one.0) worked) (map (λ one. one.1) worked) = c.join-crew.ensures.second.0 in
     let outs : c.part-outs.result.0.items ≡ map (λ one. one.0) worked = search rules in
     let riders : c.put_back_reserved.new.riders.items ≡ map (λ one. one.1) worked ++ back = search rules in
     let sweep_given : AllByRecursion (StoresSweep log.sizes) given = crew_given (StoresSweep log.sizes) (new_sweeps log.sizes) total all olds given new refl in
