@@ -78,6 +78,8 @@ pub enum Fault {
     NoneClosed,
     /// The page isn't being cleaned.
     NotCleaning,
+    /// A page couldn't be written: told by [`Pass::flush`](crate::Pass::flush) alone.
+    Device,
     /// Memory was refused.
     OutOfMemory,
     /// 4,096 epochs have ended and aren't safe.
@@ -148,6 +150,7 @@ impl Fault {
             Fault::NotInFlight => 21,
             Fault::NoneClosed => 22,
             Fault::NotCleaning => 23,
+            Fault::Device => 28,
             Fault::OutOfMemory => 29,
             Fault::WindowFull => 32,
             Fault::OutOfRange => 254,
