@@ -136,7 +136,7 @@ enum hl_fault {
     HL_NONE_CLOSED = 22,
     HL_NOT_CLEANING = 23,
     HL_STRANGER = 26, /* a: a stamp, told by hl_log.h alone */
-    HL_DEVICE = 28, /* told by flush() of C++ and Rust alone */
+    HL_DEVICE = 28,
     HL_OUT_OF_MEMORY = 29,
     HL_WINDOW_FULL = 32,
     /* no fault of the rules: */

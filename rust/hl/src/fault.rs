@@ -115,6 +115,7 @@ impl Fault {
             21 => Fault::NotInFlight,
             22 => Fault::NoneClosed,
             23 => Fault::NotCleaning,
+            28 => Fault::Device,
             29 => Fault::OutOfMemory,
             32 => Fault::WindowFull,
             254 => Fault::OutOfRange,
