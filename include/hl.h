@@ -136,6 +136,7 @@ enum hl_fault {
     HL_NONE_CLOSED = 22,
     HL_NOT_CLEANING = 23,
     HL_STRANGER = 26, /* a: a stamp, told by hl_log.h alone */
+    HL_DEVICE = 28,
     HL_OUT_OF_MEMORY = 29,
     HL_WINDOW_FULL = 32,
     /* no fault of the rules: */
@@ -177,6 +178,7 @@ static inline const char *hl_fault_name(uint64_t number) {
     case HL_NONE_CLOSED: return "NoneClosed";
     case HL_NOT_CLEANING: return "NotCleaning";
     case HL_STRANGER: return "Stranger";
+    case HL_DEVICE: return "Device";
     case HL_OUT_OF_MEMORY: return "OutOfMemory";
     case HL_WINDOW_FULL: return "WindowFull";
     case HL_OUT_OF_RANGE: return "OutOfRange";

@@ -31,7 +31,7 @@ inline namespace HL_FORM {
 using Word = std::uint64_t;
 
 /// Why a call can be refused, by the names of docs/RULES.md; OutOfRange and NoCore are codes of the library. Stranger is
-/// told by hl_log.h alone.
+/// told by hl_log.h alone, Device by flush() of a pass.
 enum class Fault : Word {
     NoSlot = HL_NO_SLOT,
     Occupied = HL_OCCUPIED,
@@ -57,6 +57,7 @@ enum class Fault : Word {
     NoneClosed = HL_NONE_CLOSED,
     NotCleaning = HL_NOT_CLEANING,
     Stranger = HL_STRANGER,
+    Device = HL_DEVICE,
     OutOfMemory = HL_OUT_OF_MEMORY,
     WindowFull = HL_WINDOW_FULL,
     OutOfRange = HL_OUT_OF_RANGE,
@@ -90,6 +91,7 @@ constexpr const char *name(Fault fault) noexcept {
     case Fault::NoneClosed: return "NoneClosed";
     case Fault::NotCleaning: return "NotCleaning";
     case Fault::Stranger: return "Stranger";
+    case Fault::Device: return "Device";
     case Fault::OutOfMemory: return "OutOfMemory";
     case Fault::WindowFull: return "WindowFull";
     case Fault::OutOfRange: return "OutOfRange";

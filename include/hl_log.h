@@ -85,6 +85,27 @@ hl_brief hl_log_allocate(hl_log *log, hl_pass *pass, uint64_t words);
 /* The slot is protected no longer, and the pass is given back: its handle is all zero. */
 hl_brief hl_log_release(hl_log *log, hl_pass *pass);
 
+/* Seals all up to the tail, so that the last pages can be flushed: a the tail, which is then where a page begins; b 1 and
+ * c its ticket where a settle was stored. It allocates the words that are left of the tail's page, raises the read-only
+ * offset to the tail, and stores a settle, each where it is due. Once that settle was taken and is done, or at once where
+ * b is 0, each page below a is sealed, and hl_log_flush_take gives those that aren't flushed or in flight.
+ * HL_DRAIN_FULL, HL_EPOCHS_SPENT, HL_WINDOW_FULL: the settle is refused, as that of hl_log_settle; the other two steps
+ * never are. They stay made, and another call goes on from there. A call while a settle waits stores one more. */
+hl_outcome hl_log_seal(hl_log *log, hl_pass *pass);
+
+/* The same by names. The ticket is 0 where no settle was stored. */
+typedef struct hl_sealed {
+    uint64_t number;
+    uint64_t address;
+    bool has_settle;
+    uint64_t ticket;
+} hl_sealed;
+
+static inline hl_sealed hl_as_sealed(hl_outcome told) {
+    hl_sealed sealed = {told.number, told.a, told.number == 0 && told.b == 1, told.c};
+    return sealed;
+}
+
 /* ---- Under the lock: the steps of the log, as those of hl.h ---- */
 
 /* Moves the read-only offset up: a the offset. HL_NOT_ABOVE, HL_ABOVE_TAIL. */

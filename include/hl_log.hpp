@@ -8,18 +8,24 @@
 // has the rules.
 //
 // An operation of an engine begins with keep_up(), asks for the region() of a record, and calls help() between two tries:
-// the example counters.cpp adds to counters so, whose pages leave memory meanwhile.
+// the example counters.cpp adds to counters so, whose pages leave memory meanwhile. At the end flush() of a pass has all
+// that is left written.
 //
 // A pass and a page may outlive their log, and the log may be moved: what they share is kept until the last of them is
-// gone. No call throws but value() of an answer, and help() and rest() what is thrown by the function that they call.
+// gone. No call throws but value() of an answer, and help(), rest() and flush() what is thrown by a function that they
+// call.
 #ifndef HL_LOG_HPP
 #define HL_LOG_HPP
 
 #include "hl_pass.hpp"
 
 #include <atomic>
+#include <chrono>
 #include <cstddef>
+#include <memory>
 #include <new>
+#include <optional>
+#include <thread>
 #include <utility>
 
 namespace hl {
@@ -73,6 +79,13 @@ class Flush {
 
   private:
     friend class Log;
+    friend class Pass;
+    static Result<Flush> take(const detail::Shared &shared) noexcept {
+        hl_page page{};
+        auto number = detail::one(shared.ask(hl_log_flush_take, &page));
+        if (!number) return Refused(number.error());
+        return Flush(shared, page, *number);
+    }
     Flush(detail::Shared shared, hl_page page, Word number) noexcept
         : shared_(std::move(shared)), page_(page), number_(number) {}
 
@@ -142,6 +155,7 @@ class Log {
     [[nodiscard]] static Result<Log> open(Sizes sizes) noexcept {
         auto *block = new (std::nothrow) detail::Block;
         if (!block) return Refused(Refusal{Fault::OutOfMemory});
+        block->page_size = sizes.page_size();
         Log log(detail::Shared(block), sizes);
         Word number = hl_log_open_wide(&block->log, sizes.page_size(), sizes.frames(), sizes.slots(),
                                        sizes.drain_places(), detail::next_stamp());
@@ -170,12 +184,7 @@ class Log {
     [[nodiscard]] Result<Word> shift(Word address) noexcept { return detail::one(shared_.ask(hl_log_shift, address)); }
 
     /// Takes the least sealed page that is neither flushed nor in flight, to be copied. NoneSealed, OutOfMemory.
-    [[nodiscard]] Result<Flush> flush_take() noexcept {
-        hl_page page{};
-        auto number = detail::one(shared_.ask(hl_log_flush_take, &page));
-        if (!number) return Refused(number.error());
-        return Flush(shared_, page, *number);
-    }
+    [[nodiscard]] Result<Flush> flush_take() noexcept { return Flush::take(shared_); }
     /// Takes the least closed page that is neither freed nor being cleaned, to be swept. NoneClosed, OutOfMemory.
     [[nodiscard]] Result<Clean> clean_take() noexcept {
         hl_page page{};
@@ -205,6 +214,60 @@ class Log {
     detail::Shared shared_;
     Sizes sizes_;
 };
+
+// ---- A pass that flushes ----
+
+template <class Write, class Job> Result<Word> Pass::flush(Word turns, Write &&write, Job &&job) {
+    std::size_t count = static_cast<std::size_t>(shared_.page_size());
+    std::unique_ptr<Word[]> words(new (std::nothrow) Word[count]);
+    if (!words) return Refused(Refusal{Fault::OutOfMemory});
+    Offsets now = offsets();
+    std::optional<Word> end;
+    for (Word left = turns;;) {
+        Offsets was = now;
+        Refusal met{Fault::NoneSealed};
+        if (!end) {
+            auto sealed = seal();
+            if (sealed) {
+                end = sealed->address;
+            } else {
+                met = sealed.error();
+                if (met != Fault::DrainFull && met != Fault::WindowFull) return Refused(met);
+            }
+        }
+        if (!end || offsets().safe_read_only < *end) {
+            auto action = carry_out(job);
+            while (action)
+                action = carry_out(job);
+            if (end) met = action.error();
+            auto entered = refresh();
+            if (!entered) return Refused(entered.error());
+        }
+        auto page = Flush::take(shared_);
+        for (; page; page = Flush::take(shared_)) {
+            if (auto copied = page->copy(words.get(), count); !copied) return Refused(copied.error());
+            if (!write(page->page(), static_cast<const Word *>(words.get()), count)) break;
+            if (auto done = page->done(); !done) return Refused(done.error());
+        }
+        if (page) {
+            met = Refusal{Fault::Device};
+        } else if (page.error() != Fault::NoneSealed) {
+            return Refused(page.error());
+        }
+        now = offsets();
+        if (end && now.flushed >= *end) return now.flushed;
+        if (now.flushed > was.flushed || now.safe_read_only > was.safe_read_only) {
+            left = turns;
+        } else if (left <= 1) {
+            return Refused(met);
+        } else {
+            left--;
+            // The page that wasn't written goes back first.
+            page = Refused(met);
+            std::this_thread::sleep_for(std::chrono::milliseconds(1));
+        }
+    }
+}
 
 } // namespace HL_FORM
 } // namespace hl

@@ -30,6 +30,12 @@ enum class Region : Word {
     Evicted = HL_REGION_EVICTED,
 };
 
+/// Up to where a log is sealed, where a page begins; and the ticket of the settle on which that waits, if one was stored.
+struct Sealed {
+    Word address;
+    std::optional<Word> ticket;
+};
+
 /// A piece of the log that one call placed, from which records are taken without the lock: the usual way to place small
 /// ones. It gives no right: each store still asks the pass. What is left of it may be let go, since nobody else gets its
 /// words. Nothing is left where it was moved from.
@@ -72,6 +78,7 @@ struct Block {
 
     std::mutex mutex;
     hl_log log{};
+    Word page_size = 0;
     // How many have it.
     std::atomic<Word> owners{1};
 };
@@ -94,6 +101,8 @@ class Shared {
     }
 
     explicit operator bool() const noexcept { return block_ != nullptr; }
+    /// Words a page of the log, and 0 of none.
+    Word page_size() const noexcept { return block_ ? block_->page_size : 0; }
 
     /// Makes a call of the log under its lock, or of one that isn't open.
     template <class Call, class... Words> auto ask(Call call, Words... words) const noexcept {
@@ -180,6 +189,29 @@ class Pass {
         }
         return address;
     }
+    /// Seals all up to the tail, so that the last pages can be flushed: allocates the words that are left of the tail's
+    /// page, raises the read-only offset to the tail, and stores a settle, each where it is due. Once that is done, each
+    /// page below is sealed. Sees the offsets as they are, where it is refused too. DrainFull, EpochsSpent, WindowFull: the
+    /// settle is refused, and another call goes on from there. A call while a settle waits stores one more.
+    [[nodiscard]] Result<Sealed> seal() noexcept {
+        hl_outcome told = shared_.ask(hl_log_seal, &pass_);
+        (void)look();
+        return detail::made(told, [](const hl_outcome &it) {
+            return Sealed{it.a, it.b == 1 ? std::optional<Word>(it.c) : std::nullopt};
+        });
+    }
+    /// Has all below the tail written, as a log wants at its end: seals it, carries out the actions that are ready, hands
+    /// the tags of jobs to `job`, and hands each sealed page to `write(page, words, count)`, which returns whether the
+    /// page is on the device. Returns the flushed offset, once it is at what was the tail. Others may flush at the same
+    /// time, and the pass stays protected meanwhile, so `write` holds up the actions of others.
+    ///
+    /// It gives up after so many turns in a row in which neither the safe read-only offset nor the flushed one rose, each of
+    /// a millisecond or more, with what stood in the way. What was written stays so, and another call goes on from there.
+    ///
+    /// Device: `write` returned false. NotReady: a slot that doesn't refresh holds an action up. Empty: another thread took
+    /// the settle, and it isn't done. NoneSealed: another thread has a page in flight. DrainFull, WindowFull: no settle
+    /// could be stored. EpochsSpent and OutOfMemory at once. Throws what `write` or `job` does.
+    template <class Write, class Job> [[nodiscard]] Result<Word> flush(Word turns, Write &&write, Job &&job);
     /// Brings the pass up to date, as a thread wants before each of its operations: without the lock where nothing is new
     /// to it (keeps_up), else by a refresh. What it sees.
     [[nodiscard]] Result<View> keep_up() noexcept {
@@ -192,13 +224,9 @@ class Pass {
     /// job to `job`, and the action is done; then refreshes. Whether it took one. An action is done where its job throws,
     /// too.
     template <class Job> [[nodiscard]] Result<bool> help(Job &&job) {
-        auto action = detail::action(shared_.ask(hl_log_take));
-        if (action) {
-            detail::Taken taken(shared_, action->ticket);
-            if (action->tag) job(*action->tag);
-        } else if (action.error() != Fault::Empty && action.error() != Fault::NotReady) {
+        auto action = carry_out(job);
+        if (!action && action.error() != Fault::Empty && action.error() != Fault::NotReady)
             return Refused(action.error());
-        }
         auto entered = refresh();
         if (!entered) return Refused(entered.error());
         return action.has_value();
@@ -258,6 +286,18 @@ class Pass {
 
   private:
     friend class Log;
+
+    Offsets offsets() const noexcept { return detail::offsets_of(shared_.ask(hl_log_six)); }
+    /// Takes the oldest action, hands the tag of a job to `job`, and the action is done. Empty, NotReady.
+    template <class Job> Result<Action> carry_out(Job &job) {
+        auto action = detail::action(shared_.ask(hl_log_take));
+        if (action) {
+            detail::Taken taken(shared_, action->ticket);
+            if (action->tag) job(*action->tag);
+        }
+        return action;
+    }
+
     Pass(detail::Shared shared, hl_pass pass, Word slot, View view) noexcept
         : shared_(std::move(shared)), pass_(pass), slot_(slot), view_(view) {}
 

@@ -159,7 +159,7 @@ static void *flush_all(void *unused) {
         hl_page page = {0};
         uint64_t number;
         pthread_mutex_lock(&lock);
-        /* At the end the tail is a page's end. */
+        /* At the end a page begins at the tail. */
         uint64_t tail = hl_log_six(&the_log).tail;
         move_offsets(tail / PAGE_SIZE * PAGE_SIZE);
         goes_on = !ended || hl_log_six(&the_log).closed < tail;
@@ -175,18 +175,18 @@ static void *flush_all(void *unused) {
     return NULL;
 }
 
-/* A page is sealed once it ends below the safe read-only offset: an empty page ends the last one. */
-static void end_last_page(void) {
-    static const uint64_t empty[PAGE_SIZE];
+/* Nothing more is appended: what is left of the last page is allocated, and all is sealed. */
+static void seal_all(void) {
     hl_pass pass = {0};
     pthread_mutex_lock(&lock);
     hl_outcome entered = hl_log_acquire(&the_log, &pass, 0);
-    pthread_mutex_unlock(&lock);
     if (entered.number != 0) {
         fail("an acquire", entered.number);
     }
-    append(&pass, empty, PAGE_SIZE);
-    pthread_mutex_lock(&lock);
+    hl_sealed sealed = hl_as_sealed(hl_log_seal(&the_log, &pass));
+    if (sealed.number != 0) {
+        fail("a seal", sealed.number);
+    }
     told("a release", hl_log_release(&the_log, &pass));
     ended = true;
     pthread_mutex_unlock(&lock);
@@ -232,7 +232,7 @@ int main(int count, char **words) {
     for (int i = 0; i < THREADS; i++) {
         pthread_join(threads[i], NULL);
     }
-    end_last_page();
+    seal_all();
     pthread_join(flusher, NULL);
     hl_quantities end = hl_log_snapshot(&the_log);
     uint64_t pages = end.six.tail / PAGE_SIZE;

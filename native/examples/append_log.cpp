@@ -37,6 +37,14 @@ static void append(hl::Pass &pass, const std::vector<Word> &words) {
     pass.keep_up().value();
 }
 
+/// Writes a page. One that isn't written may be tried again.
+static bool write_page(std::fstream &file, Word page, const Word *words, std::size_t count) {
+    std::size_t bytes = count * sizeof *words;
+    file.seekp(static_cast<std::streamoff>(page * bytes));
+    file.write(reinterpret_cast<const char *>(words), static_cast<std::streamsize>(bytes));
+    return file.good();
+}
+
 /// One turn of the thread that flushes: it seals what lies below an address, writes sealed pages, and frees what is
 /// old.
 static void serve(hl::Log &log, std::fstream &file, Word seal_below) {
@@ -48,10 +56,8 @@ static void serve(hl::Log &log, std::fstream &file, Word seal_below) {
     while (auto page = log.flush_take()) {
         std::array<Word, PAGE_SIZE> words;
         page->copy(words.data(), words.size()).value();
-        file.seekp(static_cast<std::streamoff>(page->page() * sizeof words));
-        file.write(reinterpret_cast<const char *>(words.data()), sizeof words);
         // A page that isn't done would go back, to be taken again; this program gives up.
-        if (!file) fail("the file takes no page");
+        if (!write_page(file, page->page(), words.data(), words.size())) fail("the file takes no page");
         page->done().value();
     }
     now = log.snapshot();
@@ -80,15 +86,14 @@ static void write_log(std::fstream &file) {
         });
     for (std::thread &thread : threads)
         thread.join();
-    {
-        // A page is sealed once it ends below the safe read-only offset: an empty page ends the last one.
-        hl::Pass pass = log.acquire(0).value();
-        append(pass, std::vector<Word>(PAGE_SIZE, 0));
-    }
     ended = true;
     flusher.join();
-    while (log.offsets().flushed < log.offsets().tail)
-        serve(log, file, log.offsets().tail);
+    // The last pages, with the one that isn't full. Nobody stored a job.
+    hl::Pass pass = log.acquire(0).value();
+    auto write = [&file](Word page, const Word *words, std::size_t count) {
+        return write_page(file, page, words, count);
+    };
+    pass.flush(1000, write, [](Word) {}).value();
 }
 
 /// Whether the file has each thread's records in their order, and nothing else.

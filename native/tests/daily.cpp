@@ -4,8 +4,12 @@
 
 #include <algorithm>
 #include <cstdio>
+#include <map>
+#include <mutex>
 #include <optional>
 #include <stdexcept>
+#include <thread>
+#include <vector>
 
 using hl::Fault;
 using hl::Region;
@@ -238,6 +242,112 @@ static void rests() {
     wants("help by a pass that was moved", pass.help([](Word) {}), Fault::NoCore);
 }
 
+static void seals() {
+    hl::Log log = opened(4, 4, 2, 1);
+    hl::Pass pass = log.acquire(0).value(), other = log.acquire(1).value();
+    hl::Sealed sealed = pass.seal().value();
+    is("a seal of nothing", sealed.address == 0 && !sealed.ticket);
+    is("a record", pass.allocate(3).value() == 0);
+    sealed = pass.seal().value();
+    is("a seal", sealed.address == 4 && sealed.ticket == Word{1} && pass.view() == hl::View{4, 0, 4});
+    is("another sees no word of it", other.view() == hl::View{0, 0, 0} && other.keep_up().value().tail == 4);
+    is("one more word", other.allocate(1).value() == 4);
+    wants("a seal without a place", other.seal(), Fault::DrainFull);
+    is("it filled the page", log.offsets().tail == 8 && other.view() == hl::View{8, 0, 8});
+    is("the settle is done", pass.refresh() && pass.help([](Word) {}).value() && log.offsets().safe_read_only == 4);
+    is("a seal that goes on", other.seal().value().ticket == Word{2});
+}
+
+/// Pages that were written, in their order.
+struct Device {
+    std::vector<Word> words;
+    bool write(Word page, const Word *from, std::size_t count) {
+        if (page * count != words.size()) return false;
+        words.insert(words.end(), from, from + count);
+        return true;
+    }
+};
+
+static void flushes() {
+    hl::Log log = opened(4, 4, 2, 2);
+    hl::Pass pass = log.acquire(0).value();
+    Device device;
+    Word jobs = 0, asked = 0;
+    auto write = [&](Word page, const Word *words, std::size_t count) { return device.write(page, words, count); };
+    auto fails = [&](Word, const Word *, std::size_t) { return ++asked, false; };
+    auto run = [&jobs](Word tag) { jobs += tag; };
+    is("a flush of nothing", pass.flush(1, write, run).value() == 0 && device.words.empty());
+    const Word three[] = {11, 12, 13};
+    is("two records and a job", pass.append(three, 3) && pass.append(three, 3).value() == 4 && log.bump(7));
+    wants("a device that fails", pass.flush(5, fails, run), Fault::Device);
+    is("it was asked as often as it may", asked == 5 + 1 && jobs == 7 && log.offsets().flushed == 0);
+    is("a flush", pass.flush(5, write, run).value() == 8);
+    is("the pages", device.words == std::vector<Word>{11, 12, 13, 0, 11, 12, 13, 0});
+    is("no more is asked", pass.flush(1, fails, run).value() == 8 && asked == 6);
+
+    {
+        hl::Pass slow = log.acquire(1).value();
+        is("a third record", pass.append(three, 1).value() == 8);
+        auto told = pass.flush(3, write, run);
+        is("a slot that doesn't refresh", told.error() == Fault::NotReady && told.error().first == 3);
+        is("a settle more", log.settle().value() == 4 && pass.allocate(1).value() == 12);
+        wants("no place for a settle", pass.flush(3, write, run), Fault::DrainFull);
+    }
+    is("it has left", pass.flush(3, write, run).value() == 16 && device.words.size() == 16 && device.words[8] == 11);
+
+    is("frames are free", log.shift(16) && log.close() && !pass.help(run).value() && pass.help(run).value() &&
+                              log.clean_take() && log.clean_take());
+    is("a sealed page",
+       pass.allocate(1).value() == 16 && pass.seal() && !pass.help(run).value() && pass.help(run).value());
+    {
+        hl::Flush page = log.flush_take().value();
+        wants("a flush meanwhile", pass.flush(3, write, run), Fault::NoneSealed);
+    }
+    is("it came back", pass.flush(3, write, run).value() == 20 && device.words.size() == 20);
+    hl::Pass moved = std::move(pass);
+    wants("a flush by a pass that was moved", pass.flush(3, write, run), Fault::NoCore);
+    wants("a seal by it", pass.seal(), Fault::NoCore);
+    try {
+        auto throws = [](Word, const Word *, std::size_t) -> bool { throw std::runtime_error("device"); };
+        is("one more", moved.append(three, 3).has_value());
+        (void)moved.flush(3, throws, run);
+    } catch (const std::runtime_error &) {
+        is("its page went back", moved.flush(3, write, run).value() == 24 && device.words.size() == 24);
+    }
+}
+
+/// Two threads append and flush at the same time: each word is written once, where it was placed.
+static void two_flush() {
+    const Word records = 200;
+    hl::Log log = opened(4, 256, 2, 4);
+    std::mutex mutex;
+    std::map<Word, std::vector<Word>> pages;
+    auto ride = [&](Word slot) {
+        hl::Pass pass = log.acquire(slot).value();
+        for (Word i = 0; i < records; i++) {
+            const Word record[] = {slot + 1, i};
+            pass.append(record, 2).value();
+            pass.keep_up().value();
+            if (i % 50 != 49) continue;
+            auto write = [&](Word page, const Word *words, std::size_t count) {
+                std::lock_guard<std::mutex> lock(mutex);
+                return pages.emplace(page, std::vector<Word>(words, words + count)).second;
+            };
+            while (!pass.flush(1000, write, [](Word) {}))
+                ;
+        }
+    };
+    std::thread first(ride, 0), second(ride, 1);
+    first.join();
+    second.join();
+    Word next[2] = {}, flushed = log.offsets().flushed;
+    is("all is flushed", flushed == log.offsets().tail && pages.size() == flushed / 4);
+    for (const auto &page : pages)
+        for (std::size_t at = 0; at < 4 && page.second[at] != 0; at += 2)
+            next[page.second[at] - 1] += page.second[at + 1] == next[page.second[at] - 1];
+    is("each record once, in order", next[0] == records && next[1] == records);
+}
+
 int main() {
     regions();
     dones();
@@ -247,6 +357,9 @@ int main() {
     leases();
     helps();
     rests();
+    seals();
+    flushes();
+    two_flush();
     std::printf("daily calls in C++: %d wrong\n", wrong);
     return wrong != 0;
 }

@@ -169,6 +169,7 @@ static void pages(void) {
     refuse(1);
     wants("a sweep", hl_log_sweep(&page).number, 0);
     wants("the end of the cleaning", hl_log_clean_done(&log, &page).number, 0);
+    wants("a seal", hl_log_seal(&log, &pass).a, 2 * PAGE_SIZE);
     wants("a bare bump", hl_log_bare(&log).number, 0);
     wants("a job", hl_log_bump(&log, 7).number, 0);
     wants("a release", hl_log_release(&log, &pass).number, 0);

@@ -75,7 +75,10 @@ int main() {
         is("a raise and a settle", log.raise(64).has_value() && log.settle().has_value() && pass.refresh().has_value());
         is("the settle is done", log.take().has_value() && log.done(1).has_value());
         hl::Flush flush = refuses_each("a page to flush", [&] { return log.flush_take(); }).value();
-        is("its number", flush.page() == 0);
+        is("its number", flush.page() == 0 && flush.done().value() == 64);
+        auto write = [](hl::Word, const hl::Word *, std::size_t) { return true; };
+        auto flushed = refuses_each("all pages", [&] { return pass.flush(5, write, [](hl::Word) {}); });
+        is("all are flushed", flushed.value() == 128);
 
         // A slot that rested is refused memory for its pass.
         requests = 0;

@@ -38,6 +38,7 @@ static void nothing_there(void) {
     uint64_t words[PAGE_SIZE];
     wants("an acquire of no log", hl_log_acquire(&log, &pass, 0).number, HL_NO_CORE);
     wants("a refresh of no log", hl_log_refresh(&log, &pass).number, HL_NO_CORE);
+    wants_all("a seal of no log", hl_log_seal(&log, &pass), (hl_outcome){HL_NO_CORE, 0, 0, 0, 0});
     wants("a raise of no log", hl_log_raise(&log, 1).number, HL_NO_CORE);
     wants("a take of no log", hl_log_take(&log).number, HL_NO_CORE);
     wants("a flush of no log", hl_log_flush_take(&log, &page).number, HL_NO_CORE);
@@ -81,6 +82,7 @@ static void one_pass(void) {
     wants("an acquire twice", hl_log_acquire(&log, &pass, 3).number, HL_NO_CORE);
     wants("a slot that is protected", hl_log_acquire(&log, &other, 2).number, HL_OCCUPIED);
     wants("no pass for it", hl_log_release(&log, &other).number, HL_NO_CORE);
+    wants_all("a seal by no pass", hl_log_seal(&log, &other), (hl_outcome){HL_NO_CORE, 0, 0, 0, 0});
     wants("a store before any record", hl_pass_store(&pass, 0, 1).number, HL_BEYOND);
     wants_both("a record", hl_log_allocate(&log, &pass, 2), 0, 0);
     wants("a record of no words", hl_log_allocate(&log, &pass, 0).number, HL_SIZE);
@@ -175,6 +177,9 @@ static void strangers(void) {
     wants_both("its release", hl_log_release(&second, &pass), HL_STRANGER, 5001);
     wants_both("its record", hl_log_allocate(&second, &pass, 1), HL_STRANGER, 5001);
     wants("no record was placed", hl_log_six(&second).tail, 0);
+    wants_both("a record of its own", hl_log_allocate(&second, &own, 3), 0, 0);
+    wants_all("a seal by the other", hl_log_seal(&second, &pass), (hl_outcome){HL_STRANGER, 5001, 0, 0, 0});
+    wants("no word was placed", hl_log_six(&second).tail, 3);
     wants_both("a release", hl_log_release(&second, &own), 0, 0);
     wants("a release twice", hl_log_release(&second, &own).number, HL_NO_CORE);
     wants_both("the first's own release", hl_log_release(&log, &pass), 0, 0);
@@ -257,6 +262,78 @@ static void pages(void) {
     hl_log_free(&second);
 }
 
+/* Carries out the action of a ticket, which is the oldest one, and settles what lies below an address. */
+static void settles(hl_log *log, hl_pass *pass, uint64_t ticket, uint64_t address) {
+    hl_log_refresh(log, pass);
+    wants_all("a settle's take", hl_log_take(log), (hl_outcome){0, ticket, 0, 0, 0});
+    wants_all("its done", hl_log_done(log, ticket), (hl_outcome){0, address, HL_SETTLES, 0, 0});
+}
+
+/* Takes a page to flush, which is to be this one, whose last word is this. */
+static void flushes(hl_log *log, uint64_t number, uint64_t last) {
+    hl_page page = {0};
+    uint64_t words[PAGE_SIZE];
+    wants_both("a page", hl_log_flush_take(log, &page), 0, number);
+    wants_both("its copy", hl_log_copy_page(&page, words, PAGE_SIZE), 0, number);
+    wants("its last word", words[PAGE_SIZE - 1], last);
+    wants_both("its end", hl_log_flush_done(log, &page, true), 0, (number + 1) * PAGE_SIZE);
+}
+
+/* All up to the tail is sealed, in pages that aren't full. */
+static void seals(void) {
+    hl_log log = {0};
+    hl_pass pass = {0}, other = {0};
+    hl_page page = {0};
+    hl_log_open(&log, PAGE_SIZE, 4, 2, 2, 1000);
+    hl_log_acquire(&log, &pass, 0);
+    wants_all("a seal of nothing", hl_log_seal(&log, &pass), (hl_outcome){0, 0, 0, 0, 0});
+    wants_both("all words of a page but one", hl_log_allocate(&log, &pass, PAGE_SIZE - 1), 0, 0);
+    wants_all("a seal", hl_log_seal(&log, &pass), (hl_outcome){0, PAGE_SIZE, 1, 1, 0});
+    hl_offsets six = hl_log_six(&log);
+    wants("its tail", six.tail, PAGE_SIZE);
+    wants("its read-only offset", six.read_only, PAGE_SIZE);
+    wants("its safe one", six.safe_read_only, 0);
+    wants_both("a store before the look", hl_pass_store(&pass, PAGE_SIZE - 1, 7), 0, 0);
+    wants_all("a look", hl_pass_look(&pass), (hl_outcome){0, 0, PAGE_SIZE, 0, PAGE_SIZE});
+    wants_both("a store after it", hl_pass_store(&pass, 0, 7), HL_BELOW, PAGE_SIZE);
+    wants("no sealed page", hl_log_flush_take(&log, &page).number, HL_NONE_SEALED);
+
+    /* Another settle where one waits, and none where there is no place: the steps before it stay made. */
+    wants_all("a seal once more", hl_log_seal(&log, &pass), (hl_outcome){0, PAGE_SIZE, 1, 2, 0});
+    wants_both("a word", hl_log_allocate(&log, &pass, 1), 0, PAGE_SIZE);
+    wants_all("a seal without a place", hl_log_seal(&log, &pass), (hl_outcome){HL_DRAIN_FULL, 0, 0, 0, 0});
+    wants("its tail", hl_log_six(&log).tail, 2 * PAGE_SIZE);
+    wants("its read-only offset", hl_log_six(&log).read_only, 2 * PAGE_SIZE);
+    wants_both("a word that it placed", hl_pass_load(&pass, 2 * PAGE_SIZE - 1), 0, 0);
+    settles(&log, &pass, 1, PAGE_SIZE);
+    settles(&log, &pass, 2, PAGE_SIZE);
+    hl_sealed sealed = hl_as_sealed(hl_log_seal(&log, &pass));
+    wants("a seal that goes on", sealed.number == 0 && sealed.has_settle && sealed.ticket == 3, 1);
+    wants("up to the tail", sealed.address, 2 * PAGE_SIZE);
+    flushes(&log, 0, 7);
+    wants("the second page isn't sealed", hl_log_flush_take(&log, &page).number, HL_NONE_SEALED);
+    settles(&log, &pass, 3, 2 * PAGE_SIZE);
+    flushes(&log, 1, 0);
+    sealed = hl_as_sealed(hl_log_seal(&log, &pass));
+    wants("a seal where all is sealed", sealed.number == 0 && !sealed.has_settle && sealed.ticket == 0, 1);
+    wants("and all is flushed", hl_log_six(&log).flushed, sealed.address);
+
+    /* A seal by a pass whose slot didn't allocate, and in no frame that isn't free. */
+    hl_log_acquire(&log, &other, 1);
+    wants_both("a whole page", hl_log_allocate(&log, &pass, PAGE_SIZE), 0, 2 * PAGE_SIZE);
+    wants_both("the last frame", hl_log_allocate(&log, &pass, 1), 0, 3 * PAGE_SIZE);
+    wants_all("another's seal", hl_log_seal(&log, &other), (hl_outcome){0, 4 * PAGE_SIZE, 1, 4, 0});
+    wants("no frame is free", hl_log_allocate(&log, &pass, 1).number, HL_BUSY);
+
+    /* As many epochs as may wait. */
+    while (hl_log_bare(&log).number == 0) {
+    }
+    wants_all("an epoch too many", hl_log_seal(&log, &other), (hl_outcome){HL_WINDOW_FULL, 0, 0, 0, 0});
+    hl_log_release(&log, &other);
+    hl_log_release(&log, &pass);
+    hl_log_free(&log);
+}
+
 static hl_log shared_log;
 static pthread_mutex_t lock = PTHREAD_MUTEX_INITIALIZER;
 
@@ -314,6 +391,7 @@ int main(void) {
     greatest();
     strangers();
     pages();
+    seals();
     four_threads();
     return wrong != 0;
 }

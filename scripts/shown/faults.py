@@ -18,7 +18,7 @@ from reasons import sentence_of
 
 TABLE = "crates/hl_model/src/fault.rt"
 # Faults that no call of C, C++ or Rust can meet.
-NOT_OF_DOORS = {"NoJob", "TouchesFull", "JournalFull", "Device", "BadLine", "Stream"}
+NOT_OF_DOORS = {"NoJob", "TouchesFull", "JournalFull", "BadLine", "Stream"}
 # A pass in Rust holds its log, so it is no stranger there.
 NOT_OF_RUST = NOT_OF_DOORS | {"Stranger"}
 # Faults that refuse no line of a script.

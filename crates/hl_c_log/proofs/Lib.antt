@@ -4,3 +4,4 @@ pub mod PageCalls
 pub mod PageValues
 pub mod PassCalls
 pub mod PassValues
+pub mod SealCalls

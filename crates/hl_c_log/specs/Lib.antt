@@ -3,4 +3,5 @@ pub mod Logs
 pub mod Pages
 pub mod Passes
 pub mod Rows
+pub mod Seals
 pub mod Words

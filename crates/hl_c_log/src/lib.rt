@@ -9,9 +9,10 @@
 //! reply after that list, as numbers, and the log then stands at the list with the step, if it was accepted
 //! (`Answers`, in `specs/Logs.antt`). A pass's step returns 26 with the slot's stamp, if the slot isn't the
 //! pass's, and changes nothing; else what the definitions reply behind the list and the pass's look, and the
-//! pass has what its slot has then (`CallsBy`, in `specs/Passes.antt`). An acquire and a take of a page return the
-//! definitions' fault if there is one, and 29 only if there is none: memory was refused, and at most a rider is gone
-//! (`Refuses`, in `specs/Logs.antt`).
+//! pass has what its slot has then (`CallsBy`, in `specs/Passes.antt`). A seal makes the steps that are due, each behind
+//! those before it, up to the first that is refused (`SealsBy`, in `specs/Seals.antt`). An acquire and a take of a page
+//! return the definitions' fault if there is one, and 29 only if there is none: memory was refused, and at most a rider
+//! is gone (`Refuses`, in `specs/Logs.antt`).
 //!
 //! Without it: a store, a load and a change are judged by what the pass sees, and are one access of the word
 //! of the address, which the pass's rider records (`Does`, in `specs/Words.antt`); a row of words is loaded one
@@ -46,6 +47,7 @@ mod pass_handle;
 mod pass_slot;
 mod queries;
 mod refresh;
+mod seal;
 mod step;
 mod steps;
 mod threads;
@@ -65,6 +67,7 @@ pub use pass_handle::PassHandle;
 pub use pass_slot::PassSlot;
 pub use queries::{hl_log_holders, hl_log_lag, hl_log_six, hl_log_snapshot};
 pub use refresh::hl_log_refresh;
+pub use seal::hl_log_seal;
 pub use steps::{
     hl_log_bare, hl_log_bump, hl_log_close, hl_log_done, hl_log_raise, hl_log_settle, hl_log_shift,
     hl_log_take,

@@ -59,7 +59,7 @@ impl Log {
 
     /// Begins a call of a pass: what it saw is entered, if it is known.
     #[inline(always)]
-    fn begin(&mut self, pass: &PassView) -> Result<(), Fault>
+    pub(crate) fn begin(&mut self, pass: &PassView) -> Result<(), Fault>
         ensures test { (A : List STEP) → StandsAt self.old A → result ≡ unless_fault
             (stranger_fault self.old.core.sizes self.old.stamps.row.items A pass.now) tt }
         ensures refused { OnErr result (self.new ≡ self.old) }

@@ -15,6 +15,9 @@
 //! slot has, and after a release what it saw (`Calls`, in `specs/Calls.antt`). Who a pass is, and what its view
 //! allows, is `hl_pass`'s, on which the branded keeper stands too.
 //!
+//! [`Log::seal`] makes the steps that seal all up to the tail, those that are due, up to the first that is refused, which
+//! is the settle if any is (`Seals`, in `specs/Seals.antt`).
+//!
 //! A pass that was no stranger is none at its next call, if its slot is still protected. What it saw without
 //! the lock is accepted, as a look.
 //!
@@ -46,6 +49,8 @@ mod page_words;
 mod pages;
 mod pass;
 mod region;
+mod seal;
+mod sealed;
 mod shared;
 mod step;
 mod taken;
@@ -54,5 +59,6 @@ mod unlocked;
 pub use hl_pass::{News, Region};
 pub use log::Log;
 pub use pass::Pass;
+pub use sealed::Sealed;
 pub use shared::Shared;
 pub use taken::Taken;

@@ -22,6 +22,15 @@ impl Log {
         ensures made { Moves self.old step.now self.new result }
         ensures refused { OnErr result (self.new ≡ self.old) }
     {
+        self.make(step)
+    }
+
+    // The same for any step.
+    #[inline(always)]
+    pub(crate) fn make(&mut self, step: &Step) -> Result<Reply, Fault>
+        ensures made { Moves self.old step.now self.new result }
+        ensures refused { OnErr result (self.new ≡ self.old) }
+    {
         let reply = self.core.step(step)?;
         tell(&self.shared, &mut self.master, reply);
         Ok(reply)

@@ -36,6 +36,13 @@ fn append(pass: &mut Pass<'_>, words: &[u64]) -> Outcome {
     Ok(())
 }
 
+/// Writes a page.
+fn write_page(file: &mut File, page: u64, words: &[u64]) -> std::io::Result<()> {
+    let bytes: Vec<u8> = words.iter().flat_map(|word| word.to_le_bytes()).collect();
+    file.seek(SeekFrom::Start(page * PAGE_SIZE * 8))?;
+    file.write_all(&bytes)
+}
+
 /// One turn of the thread that flushes: it seals what lies below an address, writes sealed pages, and frees what is
 /// old.
 fn serve(log: &Log, file: &mut File, seal_below: u64) -> Outcome {
@@ -52,9 +59,8 @@ fn serve(log: &Log, file: &mut File, seal_below: u64) -> Outcome {
     while let Ok(page) = log.flush_take() {
         let mut words = [0; PAGE_SIZE as usize];
         page.copy(&mut words);
-        file.seek(SeekFrom::Start(page.page() * PAGE_SIZE * 8))?;
         // Where this fails, the page is dropped, and may be taken again; this program gives up.
-        file.write_all(&words.map(u64::to_le_bytes).concat())?;
+        write_page(file, page.page(), &words)?;
         page.done()?;
     }
     let now = log.snapshot();
@@ -70,15 +76,19 @@ fn serve(log: &Log, file: &mut File, seal_below: u64) -> Outcome {
     Ok(())
 }
 
-/// Serves until the appending has ended, and then until all pages are written.
+/// Serves until the appending has ended, and then has the last pages written, with the one that isn't full.
 fn flush_all(log: &Log, file: &mut File, ended: &AtomicBool) -> Outcome {
     while !ended.load(Ordering::Acquire) {
         serve(log, file, log.offsets().tail / PAGE_SIZE * PAGE_SIZE)?;
         thread::yield_now();
     }
-    while log.offsets().flushed < log.offsets().tail {
-        serve(log, file, log.offsets().tail)?;
-    }
+    let mut pass = log.acquire(0)?;
+    // Nobody stored a job.
+    pass.flush(
+        1000,
+        |page, words| write_page(file, page, words).is_ok(),
+        |_tag| (),
+    )?;
     Ok(())
 }
 
@@ -106,14 +116,9 @@ fn write_log(file: &mut File) -> Outcome {
         let appended: Outcome = threads
             .into_iter()
             .try_for_each(|thread| thread.join().expect("no panic"));
-        // A page is sealed once it ends below the safe read-only offset: an empty page ends the last one.
-        let closing = log
-            .acquire(0)
-            .map_err(Into::into)
-            .and_then(|mut pass| append(&mut pass, &[0; PAGE_SIZE as usize]));
         ended.store(true, Ordering::Release);
         flusher.join().expect("no panic");
-        appended.and(closing)
+        appended
     })
 }
 

@@ -1,7 +1,7 @@
 //! What the library's answers tell.
 
 use crate::raw::{Brief, LagSteps, Outcome, Quantities, Six};
-use crate::{Action, Done, Entered, Fault, LagStep, Offsets, Region, Snapshot, View};
+use crate::{Action, Done, Entered, Fault, LagStep, Offsets, Region, Sealed, Snapshot, View};
 
 /// The same numbers, read one by one, as the library stores them: a read of two at once, into which the compiler joins
 /// them where it may, would wait until both stores have left the processor's buffer.
@@ -50,6 +50,13 @@ pub(crate) fn action(told: Outcome) -> Action {
     Action {
         ticket: told.a,
         tag: (told.b == 1).then_some(told.c),
+    }
+}
+
+pub(crate) fn sealed(told: Outcome) -> Sealed {
+    Sealed {
+        address: told.a,
+        ticket: (told.b == 1).then_some(told.c),
     }
 }
 

@@ -78,6 +78,8 @@ pub enum Fault {
     NoneClosed,
     /// The page isn't being cleaned.
     NotCleaning,
+    /// A page couldn't be written: told by [`Pass::flush`](crate::Pass::flush) alone.
+    Device,
     /// Memory was refused.
     OutOfMemory,
     /// 4,096 epochs have ended and aren't safe.
@@ -113,6 +115,7 @@ impl Fault {
             21 => Fault::NotInFlight,
             22 => Fault::NoneClosed,
             23 => Fault::NotCleaning,
+            28 => Fault::Device,
             29 => Fault::OutOfMemory,
             32 => Fault::WindowFull,
             254 => Fault::OutOfRange,
@@ -148,6 +151,7 @@ impl Fault {
             Fault::NotInFlight => 21,
             Fault::NoneClosed => 22,
             Fault::NotCleaning => 23,
+            Fault::Device => 28,
             Fault::OutOfMemory => 29,
             Fault::WindowFull => 32,
             Fault::OutOfRange => 254,

@@ -17,6 +17,7 @@
 mod answers;
 mod core;
 mod fault;
+mod flush;
 mod lease;
 mod log;
 mod pages;
@@ -33,8 +34,8 @@ pub use pages::{Clean, Flush};
 pub use pass::Pass;
 pub use slot::Slot;
 pub use told::{
-    Action, Done, Entered, Frame, Holder, Kind, LagStep, Offsets, Pending, RawSizes, Region, Sizes, Snapshot,
-    View,
+    Action, Done, Entered, Frame, Holder, Kind, LagStep, Offsets, Pending, RawSizes, Region, Sealed, Sizes,
+    Snapshot, View,
 };
 
 /// The version of this crate.

@@ -15,7 +15,8 @@ static LOGS: AtomicU64 = AtomicU64::new(0);
 /// pages, copies them, shifts the head, closes what lies below it, and sweeps the closed pages.
 ///
 /// An operation of an engine begins with [`Pass::keep_up`], asks for the [`Pass::region`] of a record, and calls
-/// [`Pass::help`] between two tries: the example `counters` adds to counters so, whose pages leave memory meanwhile.
+/// [`Pass::help`] between two tries: the example `counters` adds to counters so, whose pages leave memory meanwhile. At the
+/// end [`Pass::flush`] has all that is left written.
 ///
 /// ```
 /// use hl::{Log, Sizes};

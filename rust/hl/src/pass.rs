@@ -1,7 +1,7 @@
 //! What a thread does in its slot, under the lock and without it.
 
 use crate::raw::{self, Brief, Handle, Outcome};
-use crate::{answers, Entered, Fault, Lease, Log, Region, View};
+use crate::{answers, Entered, Fault, Lease, Log, Region, Sealed, View};
 
 /// A protected slot of a [`Log`], which is released where it is dropped.
 ///
@@ -34,6 +34,11 @@ impl<'a> Pass<'a> {
     /// Its slot's number.
     pub fn slot(&self) -> u64 {
         self.slot
+    }
+
+    /// The log of its slot.
+    pub(crate) fn log(&self) -> &'a Log {
+        self.log
     }
 
     /// What the slot has seen.
@@ -78,6 +83,17 @@ impl<'a> Pass<'a> {
         Ok(first)
     }
 
+    /// Seals all up to the tail, so that the last pages can be flushed: allocates the words that are left of the tail's
+    /// page, raises the read-only offset to the tail, and stores a settle, each where it is due. Once that is done, each
+    /// page below is sealed. Sees the offsets as they are, where it is refused too. DrainFull, EpochsSpent, WindowFull: the
+    /// settle is refused, and another call goes on from there. A call while a settle waits stores one more.
+    pub fn seal(&mut self) -> Result<Sealed, Fault> {
+        let pass = &mut self.handle;
+        let told = self.log.ask(|log| unsafe { raw::hl_log_seal(log, pass) });
+        self.look();
+        told.map(answers::sealed)
+    }
+
     /// Brings the pass up to date, as a thread wants before each of its operations: without the lock where nothing is new
     /// to it ([`keeps_up`](Pass::keeps_up)), else by a refresh. What it sees.
     #[inline]
@@ -92,22 +108,26 @@ impl<'a> Pass<'a> {
     /// job to `job`, and the action is done; then refreshes. Whether it took one. An action is done where its job panics,
     /// too.
     pub fn help(&mut self, job: impl FnOnce(u64)) -> Result<bool, Fault> {
-        let helped = match self.log.take() {
-            Ok(action) => {
-                let _taken = Taken {
-                    log: self.log,
-                    ticket: action.ticket,
-                };
-                if let Some(tag) = action.tag {
-                    job(tag);
-                }
-                true
-            }
+        let helped = match self.carry_out(job) {
+            Ok(()) => true,
             Err(Fault::Empty | Fault::NotReady { .. }) => false,
             Err(fault) => return Err(fault),
         };
         self.refresh()?;
         Ok(helped)
+    }
+
+    /// Takes the oldest action, hands the tag of a job to `job`, and the action is done. Empty, NotReady.
+    pub(crate) fn carry_out(&mut self, job: impl FnOnce(u64)) -> Result<(), Fault> {
+        let action = self.log.take()?;
+        let _taken = Taken {
+            log: self.log,
+            ticket: action.ticket,
+        };
+        if let Some(tag) = action.tag {
+            job(tag);
+        }
+        Ok(())
     }
 
     /// Releases the slot while `work` runs, as for a wait for a device, so that it holds nothing back; then protects it

@@ -142,6 +142,7 @@ extern "C" {
     pub(crate) fn hl_log_refresh(log: *mut Handle, pass: *mut Handle) -> Outcome;
     pub(crate) fn hl_log_allocate(log: *mut Handle, pass: *mut Handle, words: u64) -> Brief;
     pub(crate) fn hl_log_release(log: *mut Handle, pass: *mut Handle) -> Brief;
+    pub(crate) fn hl_log_seal(log: *mut Handle, pass: *mut Handle) -> Outcome;
     pub(crate) fn hl_log_raise(log: *mut Handle, address: u64) -> Brief;
     pub(crate) fn hl_log_shift(log: *mut Handle, address: u64) -> Brief;
     pub(crate) fn hl_log_bump(log: *mut Handle, tag: u64) -> Brief;

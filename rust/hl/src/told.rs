@@ -156,6 +156,15 @@ pub enum Kind {
     Close(u64),
 }
 
+/// Up to where a log is sealed, and the settle on which that waits.
+#[derive(Clone, Copy, Debug, PartialEq, Eq)]
+pub struct Sealed {
+    /// What was the tail, where a page begins: each page below is sealed once the settle is done.
+    pub address: u64,
+    /// The ticket of the settle that was stored, if one was due.
+    pub ticket: Option<u64>,
+}
+
 /// A pending action.
 #[derive(Clone, Copy, Debug, PartialEq, Eq)]
 pub struct Pending {

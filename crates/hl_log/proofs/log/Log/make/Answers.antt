@@ -2,7 +2,7 @@ use Rattle.std.proofs.Common.{refl, ap, ◌∙◌}
 use Rattle.hl_words.specs.Rows.{RowMasterState}
 use Rattle.hl_log.specs.States.{LogState}
 use Rattle.hl_log.proofs.StandLaws.{makes_told, makes_at, told_rises, log_after}
-use Rattle.hl_log.proofs.log.Log.step.Goals as goal
+use Rattle.hl_log.proofs.log.Log.make.Goals as goal
 
 pub tell-requires-clause-rises : goal.tell-requires-clause-rises
 tell-requires-clause-rises c = told_rises (record { core = c.self.inside.core; stamps = c.self.inside.stamps; shared = c.self.inside.shared.value; master = c.self.inside.master }) _ c.args.step.now c.in_ok-reply.reply c.self.invariant c.in_ok-reply.ensures.made
